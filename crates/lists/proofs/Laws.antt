@@ -1,0 +1,42 @@
+-- General laws on lists: whole buffers, parts that are lent in a loop, and lists made from a rule for each place.
+use mathlib.Core.Path.{_≡_, refl, sym, ap, _∙_}
+use mathlib.Core.List.{List, [], _∷_, _++_, append-nil, append-assoc}
+use Prim.Native.Nat.{ℕ, zero, suc, _+_, _-_, _*_, _≤_, _<_}
+use native.Mathlib.Nat.{add-zero, add-suc, not-suc-le-zero, le-of-suc-le-suc}
+use native.Mathlib.Numerals.{add-one}
+use native.Mathlib.Decide.{decLt}
+use native.Mathlib.Omega.{arith}
+use lib.ListN.{length, getD, take, drop, set, replicate, length-append, length-drop, drop-of-length-le, List·getD-append, List·getD-eq-default}
+use lib.Seq.{take-at, drop-at, drop-drop, set-at, drop-cons, getD-at}
+use Rattle.lists.specs.Tab.{tab}
+
+module _ {ℓ} {A : Type ℓ} where
+  -- a front that reaches the end is the whole
+  pub front-all : (p d : List A) (n : ℕ) → length d ≤ n → p ++ drop n d ≡ p
+  front-all p d n h = rw (drop-of-length-le d h) (append-nil p)
+
+  -- a part at the end of the front, lent and given back as ys, makes the front longer
+  pub lent : (p d ys : List A) (a e : ℕ) → length p ≡ a → a ≤ e → take a (p ++ drop a d) ++ (ys ++ drop (e - a) (drop a (p ++ drop a d))) ≡ (p ++ ys) ++ drop e d
+  lent p d ys a e hp h =
+      let k : a + (e - a) ≡ e = omega arith in
+      rw (take-at p (drop a d) a hp, drop-at p (drop a d) a hp, drop-drop (e - a) a d, k) (sym (append-assoc p ys (drop e d)))
+
+  -- one place more is stored
+  pub stored : (p d : List A) (n : ℕ) (x : A) → length p ≡ n → n < length d → set (p ++ drop n d) n x ≡ (p ++ (x ∷ [])) ++ drop (n + 1) d
+  stored p d n x hp h =
+      rw (add-one n, drop-cons d n x h, set-at p (getD d n x) (drop (suc n) d) x n hp, append-assoc p (x ∷ []) (drop (suc n) d)) refl
+
+  -- a list made from a rule: its length, and each place
+  pub length-tab : (f : ℕ → A) (n : ℕ) → length (tab f n) ≡ n
+  length-tab f zero = refl
+  length-tab f (suc n) = rw (length-append (tab f n) (f n ∷ []), length-tab f n) (add-one n)
+
+  pub getD-tab : (f : ℕ → A) (n i : ℕ) (d : A) → i < n → getD (tab f n) i d ≡ f i
+  getD-tab f zero i d h = absurd (not-suc-le-zero h)
+  getD-tab f (suc n) i d h = go (getD-tab f n i d) (decLt i n)
+    where
+      go : (i < n → getD (tab f n) i d ≡ f i) → Dec (i < n) → getD (tab f n ++ (f n ∷ [])) i d ≡ f i
+      go ih (yes l) = List·getD-append (tab f n) (f n ∷ []) d i (rw (length-tab f n) l) ∙ ih l
+      go ih (no l) =
+          let e : i ≡ n = omega arith in
+          rw e (getD-at (tab f n) (f n) [] d n (length-tab f n))

@@ -1,0 +1,16 @@
+pub mod Numbers
+pub mod Registers
+pub mod Blocks
+pub mod Slots
+pub mod Colour
+pub mod External
+pub mod Levels
+pub mod Scanline
+pub mod Sync
+pub mod Record
+pub mod Refusals
+pub mod Painting
+pub mod Direct
+pub mod Listing
+pub mod Examples
+pub mod Internal

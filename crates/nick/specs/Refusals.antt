@@ -1,0 +1,73 @@
+-- Document 01, "Buffers and refusal numbers": the tests of the table. A call tests its numbers in rising order, so that
+-- "the smallest number is given"; 0 stands for no refusal.
+use Prim.Native.Nat.{ℕ, zero, suc, _+_, _*_}
+use mathlib.Core.Bool.{Bool, true, false, not, _&&_, _||_}
+use mathlib.Core.List.{List}
+use lib.Dec.{eqb, ltb}
+use lib.ListN.{length}
+use Rattle.lists.specs.Choice.{pick}
+use Rattle.nick.specs.Blocks.{loads, loadedNumber}
+use Rattle.nick.specs.Scanline.{scanAfter}
+use Rattle.nick.specs.declared.Registers.{Registers}
+use Rattle.nick.specs.declared.Scan.{Scan}
+use Rattle.nick.specs.declared.State.{State}
+
+-- 3: "state: scanlines left over 256, or block number over 4,095"
+abbrev pub illFormed : Scan → Bool
+illFormed c = ltb 256 (c .left) || ltb 4095 (c .number)
+
+-- 4: "RAM not 65,536 bytes"
+abbrev pub notFull : List ℕ → Bool
+notFull ram = not (eqb (length ram) 65536)
+
+-- 5: "height 0 or over 1,024"
+abbrev pub badHeight : ℕ → Bool
+badHeight h = eqb h 0 || ltb 1024 h
+
+-- 6: "dot buffer not 736 times the height"
+abbrev pub badDots : ℕ → List ℕ → Bool
+badDots h dots = not (eqb (length dots) (736 * h))
+
+-- 7: "record buffer not 4 times the height"
+abbrev pub badRecords : ℕ → List ℕ → Bool
+badRecords h records = not (eqb (length records) (4 * h))
+
+-- 8: "external input neither empty nor 736 times the height"
+abbrev pub badExternal : ℕ → List ℕ → Bool
+badExternal h external = not (eqb (length external) 0 || eqb (length external) (736 * h))
+
+-- 9: "direct answer: line over 1,023 or dot over 735"
+abbrev pub badPlace : ℕ → ℕ → Bool
+badPlace line dot = ltb 1023 line || ltb 735 dot
+
+-- the block that the next scanline loads would run past address 65,535
+abbrev pub loadPastEnd : Registers → Scan → Bool
+loadPastEnd g c = loads c && ltb 65536 (16 * loadedNumber g c + 16)
+
+-- 11: "a block to be loaded would run past address 65,535", in the next n scanlines
+abbrev pub pastEnd : Registers → List ℕ → ℕ → Scan → Bool
+pastEnd g ram zero c = false
+pastEnd g ram (suc n) c = pastEnd g ram n c || loadPastEnd g (scanAfter g ram n c)
+
+-- "3, 4 and 11 for painting and the direct answer; 5 to 8 for painting"
+unfoldable pub paintingRefusal : State → List ℕ → ℕ → List ℕ → List ℕ → List ℕ → ℕ
+paintingRefusal s ram h dots records external =
+    pick (illFormed (s .scan)) 3
+    (pick (notFull ram) 4
+    (pick (badHeight h) 5
+    (pick (badDots h dots) 6
+    (pick (badRecords h records) 7
+    (pick (badExternal h external) 8
+    (pick (pastEnd (s .registers) ram h (s .scan)) 11 0))))))
+
+-- "3, 4 and 11 for painting and the direct answer; .. 9 for the direct answer"
+unfoldable pub directRefusal : State → List ℕ → ℕ → ℕ → ℕ
+directRefusal s ram line dot =
+    pick (illFormed (s .scan)) 3
+    (pick (notFull ram) 4
+    (pick (badPlace line dot) 9
+    (pick (pastEnd (s .registers) ram (suc line) (s .scan)) 11 0)))
+
+-- "4 and 10 for the listing"; 10: "output shorter than the whole listing"
+unfoldable pub listingRefusal : List ℕ → List ℕ → List ℕ → ℕ
+listingRefusal ram text out = pick (notFull ram) 4 (pick (ltb (length out) (length text)) 10 0)
