@@ -1,6 +1,7 @@
 // Line parameter blocks: decoding the sixteen bytes, and how a scanline begins.
 ghost use mathlib.Core.Path.{_≡_};
 ghost use Prim.Native.Nat.{_+_, _*_, _<_, _≤_};
+ghost use mathlib.Core.Bool.{true, false};
 ghost use lib.ListN.{length};
 ghost use Rattle.nick.specs.Registers.{baseNumber};
 ghost use Rattle.nick.specs.Blocks.{decoded, blockAt, loadedNumber, loaded, continued, loads, begun};
@@ -42,5 +43,93 @@ pub fn decode(bytes: &[u8]) -> Block
         rm: bytes[3],
         start,
         col,
+    }
+}
+
+// The block that starts at sixteen times its number.
+pub fn block_at(ram: &[u8], number: u16) -> Block
+    requires { ⌜ (length (now ram) ≡ 65536) × (number < 4096) ⌝ }
+    ensures { λ r. ⌜ r ≡ blockAt (now (ram .entry)) number ⌝ }
+{
+    let a = number as usize * 16;
+    let e = a + 16;
+    decode(&ram[a..e])
+}
+
+// The number of the table's first block.
+pub fn base_number(registers: Registers) -> u16
+    ensures { λ r. ⌜ (r ≡ baseNumber registers) × (r < 4096) ⌝ }
+{
+    registers.lph as u16 % 16 * 256 + registers.lpl as u16
+}
+
+// Whether the next scanline loads a block.
+pub fn is_loading(scan: Scan) -> bool
+    ensures { λ r. ⌜ r ≡ loads scan ⌝ }
+{
+    scan.pending || scan.left == 0
+}
+
+// The number of the block that a load takes.
+pub fn loaded_number(registers: Registers, scan: Scan) -> u16
+    requires { ⌜ scan .number < 4096 ⌝ }
+    ensures { λ r. ⌜ (r ≡ loadedNumber registers scan) × (r < 4096) ⌝ }
+{
+    if scan.pending {
+        return base_number(registers);
+    }
+    if scan.block.mb % 2 == 1 {
+        return base_number(registers);
+    }
+    if registers.lph / 64 % 2 == 0 {
+        return scan.number;
+    }
+    (scan.number + 1) % 4096
+}
+
+// The scan after a load.
+pub fn load(registers: Registers, ram: &[u8], scan: Scan) -> Scan
+    requires { ⌜ (length (now ram) ≡ 65536) × (scan .number < 4096) ⌝ }
+    ensures { λ r. ⌜ r ≡ loaded registers (loadedNumber registers scan) (blockAt (now (ram .entry)) (loadedNumber registers scan)) ⌝ }
+{
+    let number = loaded_number(registers, scan);
+    let block = block_at(ram, number);
+    let at = block.start;
+    Scan {
+        pending: registers.lph / 128 % 2 == 0,
+        block,
+        number,
+        at,
+        left: 256 - block.sc as u16,
+    }
+}
+
+// The scan of a mode line that goes on.
+pub fn resume(scan: Scan) -> Scan
+    ensures { λ r. ⌜ r ≡ continued scan ⌝ }
+{
+    let block = scan.block;
+    let mut at = scan.at;
+    if block.mb / 16 % 2 == 0 {
+        at.ld1 = block.start.ld1;
+    }
+    Scan {
+        pending: scan.pending,
+        block,
+        number: scan.number,
+        at,
+        left: scan.left,
+    }
+}
+
+// The scan as the next scanline begins.
+pub fn begin(registers: Registers, ram: &[u8], scan: Scan) -> Scan
+    requires { ⌜ (length (now ram) ≡ 65536) × (scan .number < 4096) ⌝ }
+    ensures { λ r. ⌜ r ≡ begun registers (now (ram .entry)) scan ⌝ }
+{
+    if is_loading(scan) {
+        load(registers, ram, scan)
+    } else {
+        resume(scan)
     }
 }

@@ -1,0 +1,53 @@
+-- `blocks::loaded_number` tests in the rule's order, so each return rewrites the rule with the tests that led there.
+use Prim.Native.Nat.{_/_, _%_}
+use borrow.Author.Tests.{eq-eqb, ne-eqb}
+use native.Mathlib.Nat.{div-one}
+use native.Mathlib.Omega.{arith}
+use Rattle.nick.specs.Blocks.{loadedNumber}
+use Prim.Native.Nat.{_/_, _%_}
+use borrow.Author.Needs.{needs}
+use Rattle.blocks.proofs.loaded_number.Statement.{statement}
+use Rattle.blocks.proofs.loaded_number.Tie as tie
+
+base-number-requires : tie.Need-base-number-requires
+base-number-requires c κs = search needs
+
+returns : tie.Need-returns
+unfolding loadedNumber
+returns c = (rw (c .before .if1 .taken) (c .base-number .ensures .0), c .base-number .ensures .1)
+
+base-number-requires-2 : tie.Need-base-number-requires-2
+base-number-requires-2 c κs = search needs
+
+returns-2 : tie.Need-returns-2
+unfolding loadedNumber
+returns-2 c = (rw (c .before .before .before .if1 .left, div-one, c .before .if2 .taken) (c .base-number2 .ensures .0), c .base-number2 .ensures .1)
+
+returns-3 : tie.Need-returns-3
+unfolding loadedNumber
+returns-3 c =
+    let mb = c .before .before .before .before .before .args .scan .block .mb in
+    let lph = c .before .before .before .before .before .args .registers .lph in
+    (rw (c .before .before .before .before .if1 .left, div-one, ne-eqb (mb % 2) 1 (c .before .before .if2 .left), ne-eqb (lph / 64 % 2) 1 (omega arith)), search needs)
+
+add-result : tie.Need-add-result
+add-result c = search needs
+
+returns-4 : tie.Need-returns-4
+unfolding loadedNumber
+returns-4 c =
+    let mb = c .before .before .before .before .before .before .args .scan .block .mb in
+    let lph = c .before .before .before .before .before .before .args .registers .lph in
+    (rw (c .before .before .before .before .before .if1 .left, div-one, ne-eqb (mb % 2) 1 (c .before .before .before .if2 .left), eq-eqb (lph / 64 % 2) 1 (omega arith)), omega arith)
+
+pub loaded-number-spec : {M : Type 1} → statement M
+loaded-number-spec =
+    tie.close
+    (tie.spec
+    base-number-requires
+    returns
+    base-number-requires-2
+    returns-2
+    returns-3
+    add-result
+    returns-4)
