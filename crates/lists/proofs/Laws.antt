@@ -8,6 +8,8 @@ use native.Mathlib.Decide.{decLt}
 use native.Mathlib.Omega.{arith}
 use lib.ListN.{length, getD, take, drop, set, replicate, length-append, length-drop, drop-of-length-le, List·getD-append, List·getD-eq-default}
 use lib.Seq.{take-at, drop-at, drop-drop, set-at, drop-cons, getD-at}
+use mathlib.Core.Bool.{Bool, true, false}
+use Rattle.lists.specs.Choice.{number}
 use Rattle.lists.specs.Tab.{tab}
 
 module _ {ℓ} {A : Type ℓ} where
@@ -40,3 +42,8 @@ module _ {ℓ} {A : Type ℓ} where
       go ih (no l) =
           let e : i ≡ n = omega arith in
           rw e (getD-at (tab f n) (f n) [] d n (length-tab f n))
+
+-- a test as a number is at most 1
+pub number-le : (b : Bool) → number b ≤ 1
+number-le true = omega arith
+number-le false = omega arith

@@ -1,0 +1,59 @@
+-- Laws that go by the video mode's number.
+use mathlib.Core.Path.{_≡_, refl}
+use mathlib.Core.Bool.{Bool, not, _||_}
+use Prim.Native.Nat.{ℕ, zero, suc, _-_, _<_, _≤_}
+use native.Mathlib.Nat.{not-suc-le-zero, le-of-suc-le-suc}
+use native.Mathlib.Omega.{arith}
+use lib.Dec.{eqb}
+use Rattle.nick.specs.Slots.{CH, modeNumbered, modeFetches}
+use Rattle.nick.specs.Sync.{syncs}
+use Rattle.nick.specs.Record.{isUnused}
+
+-- what holds of 0 to 7 holds below 8
+pub below-eight : (P : ℕ → Type 0) → P 0 → P 1 → P 2 → P 3 → P 4 → P 5 → P 6 → P 7 → (m : ℕ) → m < 8 → P m
+below-eight P p0 p1 p2 p3 p4 p5 p6 p7 zero h = p0
+below-eight P p0 p1 p2 p3 p4 p5 p6 p7 (suc zero) h = p1
+below-eight P p0 p1 p2 p3 p4 p5 p6 p7 (suc (suc zero)) h = p2
+below-eight P p0 p1 p2 p3 p4 p5 p6 p7 (suc (suc (suc zero))) h = p3
+below-eight P p0 p1 p2 p3 p4 p5 p6 p7 (suc (suc (suc (suc zero)))) h = p4
+below-eight P p0 p1 p2 p3 p4 p5 p6 p7 (suc (suc (suc (suc (suc zero))))) h = p5
+below-eight P p0 p1 p2 p3 p4 p5 p6 p7 (suc (suc (suc (suc (suc (suc zero)))))) h = p6
+below-eight P p0 p1 p2 p3 p4 p5 p6 p7 (suc (suc (suc (suc (suc (suc (suc zero))))))) h = p7
+below-eight P p0 p1 p2 p3 p4 p5 p6 p7 (suc (suc (suc (suc (suc (suc (suc (suc m)))))))) h = absurd (too-large m h)
+  where
+    too-large : (n : ℕ) → suc (suc (suc (suc (suc (suc (suc (suc n))))))) < 8 → ⊥
+    too-large n l = omega arith
+
+-- VSYNC is mode 0
+pub syncs-zero : (m : ℕ) → m < 8 → syncs (modeNumbered m) ≡ eqb m 0
+unfolding modeNumbered
+syncs-zero = below-eight (λ m. syncs (modeNumbered m) ≡ eqb m 0) refl refl refl refl refl refl refl refl
+
+-- the unused mode is mode 6
+pub unused-six : (m : ℕ) → m < 8 → isUnused (modeNumbered m) ≡ eqb m 6
+unfolding modeNumbered
+unused-six = below-eight (λ m. isUnused (modeNumbered m) ≡ eqb m 6) refl refl refl refl refl refl refl refl
+
+-- the others fetch
+pub fetches-but : (m : ℕ) → m < 8 → modeFetches (modeNumbered m) ≡ not (eqb m 0 || eqb m 6)
+unfolding modeNumbered
+fetches-but =
+    below-eight (λ m. modeFetches (modeNumbered m) ≡ not (eqb m 0 || eqb m 6)) refl refl refl refl refl refl refl refl
+
+-- modes 3, 4 and 5 are the character modes of 8, 7 and 6 bits
+pub characters : (m : ℕ) → 3 ≤ m → m ≤ 5 → modeNumbered m ≡ CH (11 - m)
+unfolding modeNumbered
+characters m l h = go m (omega arith) l h
+  where
+    none : (n : ℕ) → n < 3 → 3 ≤ n → ⊥
+    none n a b = omega arith
+
+    over : (n : ℕ) → n ≤ 5 → 5 < n → ⊥
+    over n a b = omega arith
+
+    go : (n : ℕ) → n < 8 → 3 ≤ n → n ≤ 5 → modeNumbered n ≡ CH (11 - n)
+    go =
+        below-eight (λ n. 3 ≤ n → n ≤ 5 → modeNumbered n ≡ CH (11 - n))
+        (λ a b. absurd (none 0 (omega arith) a)) (λ a b. absurd (none 1 (omega arith) a)) (λ a b. absurd (none 2 (omega arith) a))
+        (λ a b. refl) (λ a b. refl) (λ a b. refl)
+        (λ a b. absurd (over 6 b (omega arith))) (λ a b. absurd (over 7 b (omega arith)))

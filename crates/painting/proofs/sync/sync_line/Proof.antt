@@ -1,0 +1,78 @@
+-- `painting::sync::sync_line`: after each turn the level and the count are the rules' over the slots passed.
+use mathlib.Core.Path.{_≡_, refl, _∙_, ap, ap₂}
+use Prim.Native.Nat.{ℕ, suc, _+_, _-_, _/_, _%_, _≤_}
+use native.Mathlib.Numerals.{add-one}
+use native.Mathlib.Omega.{arith}
+use borrow.Author.Tests.{eq-eqb, ne-eqb}
+use Rattle.lists.specs.Choice.{number}
+use Rattle.lists.proofs.Laws.{number-le}
+use Rattle.nick.specs.Sync.{syncAt, syncAfter, syncCount, lineSync, lineSyncCount}
+use Rattle.nick.proofs.Modes.{syncs-zero}
+use borrow.Author.Needs.{needs}
+use Rattle.painting.proofs.sync.sync_line.Statement.{statement}
+use Rattle.painting.proofs.sync.sync_line.Tie as tie
+
+abbrev Inv-loop : tie.InvT-loop
+Inv-loop block on sync₀ slot₀ sync slot =
+    (slot ≤ 57) × (sync .on ≡ syncAfter block slot on) × (sync .count ≡ syncCount block slot on) × (sync .count ≤ slot)
+
+abbrev μ-loop : tie.MeasureT-loop
+μ-loop block on sync₀ slot₀ sync slot = 57 - slot
+
+returns : tie.Need-returns Inv-loop μ-loop
+unfolding lineSync lineSyncCount
+returns c =
+    let m = c .before .before .args .block .mb / 2 % 8 in
+    record {
+      level = rw (syncs-zero m (omega arith), ne-eqb m 0 (c .if1 .taken));
+      slots = rw (syncs-zero m (omega arith), ne-eqb m 0 (c .if1 .taken));
+    }
+
+loop-holds : tie.Need-loop-holds Inv-loop μ-loop
+loop-holds c = search needs
+
+pass-slot-requires : tie.Need-pass-slot-requires Inv-loop μ-loop
+pass-slot-requires c κs = search needs
+
+add-slot : tie.Need-add-slot Inv-loop μ-loop
+add-slot c = search needs
+
+loop-less : tie.Need-loop-less Inv-loop μ-loop
+loop-less c = search needs
+
+loop-again : tie.Need-loop-again Inv-loop μ-loop
+loop-again c =
+    let s = c .before .before .loop .sync in
+    let slot = c .before .before .loop .slot in
+    let b = c .before .before .before .before .before .args .block in
+    let on : c .pass-slot .result .on ≡ syncAfter b (suc slot) (c .before .before .before .before .before .args .on) =
+    c .pass-slot .ensures .on ∙ ap (syncAt b slot) (c .before .before .loop .inv .1) in (
+      omega arith,
+      rw (add-one slot) on,
+      rw (add-one slot, ← (c .before .before .loop .inv .2), ← (c .before .before .loop .inv .1)) (c .pass-slot .ensures .count),
+      rw (c .pass-slot .ensures .count) (omega (arith, number-le (syncAt b slot (s .on)))),
+    )
+
+returns-2 : tie.Need-returns-2 Inv-loop μ-loop
+unfolding lineSync lineSyncCount
+returns-2 c =
+    let m = c .before .before .before .before .args .block .mb / 2 % 8 in
+    let all : c .before .loop .slot ≡ 57 = omega arith in
+    record {
+      level = rw (syncs-zero m (omega arith), eq-eqb m 0 (omega arith)) (c .before .loop .inv .1 ∙ ap (λ (n : ℕ). syncAfter (c .before .before .before .before .args .block) n (c .before .before .before .before .args .on)) all);
+      slots = rw (syncs-zero m (omega arith), eq-eqb m 0 (omega arith)) (c .before .loop .inv .2 ∙ ap (λ (n : ℕ). syncCount (c .before .before .before .before .args .block) n (c .before .before .before .before .args .on)) all);
+    }
+
+pub sync-line-spec : {M : Type 1} → statement M
+sync-line-spec =
+    tie.close
+    (tie.spec
+    Inv-loop
+    μ-loop
+    returns
+    loop-holds
+    pass-slot-requires
+    add-slot
+    loop-less
+    loop-again
+    returns-2)

@@ -1,0 +1,3 @@
+// Painting scanlines.
+mod record;
+mod sync;

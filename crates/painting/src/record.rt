@@ -1,0 +1,65 @@
+// The line record's first and last byte.
+ghost use mathlib.Core.Path.{_≡_};
+ghost use mathlib.Core.Bool.{_&&_, not};
+ghost use Prim.Native.Nat.{_≤_, min, max};
+ghost use Rattle.lists.specs.Choice.{number};
+ghost use Rattle.nick.specs.Record.{flags, fetchingSlots};
+use nick::Block;
+
+// 1 for true, 0 for false.
+fn bit(b: bool) -> u8
+    ensures { λ r. ⌜ (r ≡ number b) × (r ≤ 1) ⌝ }
+{
+    if b { 1 } else { 0 }
+}
+
+// VIRQ is low now, and was high in the scanline before.
+fn falls(low: bool, was_low: bool) -> bool
+    ensures { λ r. ⌜ r ≡ low && not «was_low» ⌝ }
+{
+    low && !was_low
+}
+
+// Byte 0: VIRQ, its edge, burst, load, last scanline, mode 6.
+pub fn flag_byte(block: Block, was_low: bool, load: bool, last: bool) -> u8
+    ensures { λ r. ⌜ r ≡ flags block «was_low» load last ⌝ }
+{
+    let mode = block.mb / 2 % 8;
+    let low = block.mb / 128 % 2 == 1;
+    bit(low)
+        + 2 * bit(falls(low, was_low))
+        + 4 * bit(mode != 0)
+        + 8 * bit(load)
+        + 16 * bit(last)
+        + 32 * bit(mode == 6)
+}
+
+// The larger of two numbers.
+fn larger(a: u8, b: u8) -> u8
+    ensures { λ r. ⌜ r ≡ max a b ⌝ }
+{
+    if a < b { b } else { a }
+}
+
+// The smaller of two numbers.
+fn smaller(a: u8, b: u8) -> u8
+    ensures { λ r. ⌜ r ≡ min a b ⌝ }
+{
+    if a < b { a } else { b }
+}
+
+// Byte 3: the active slots, in modes that fetch.
+pub fn slots_byte(block: Block) -> u8
+    ensures { λ r. ⌜ r ≡ fetchingSlots block ⌝ }
+{
+    let mode = block.mb / 2 % 8;
+    if mode == 0 {
+        return 0;
+    }
+    if mode == 6 {
+        return 0;
+    }
+    let left = larger(block.lm % 64, 8);
+    let right = smaller(block.rm % 64, 54);
+    if left < right { right - left } else { 0 }
+}

@@ -1,0 +1,75 @@
+//! The second program: an independent NICK painter for comparison by digests.
+
+mod families;
+mod nick;
+mod random;
+#[cfg(test)]
+mod tests;
+
+use families::FAMILIES;
+use std::io::Write;
+use std::process::ExitCode;
+
+const USAGE: &str = "usage:
+  second frames|dots|listings|writes [CASE]
+  second colours
+  second coverage
+  second list RAMFILE FIXBIAS BORDER LPL LPH
+  second bench MODE N [COLOURMODE]";
+
+fn main() -> ExitCode {
+    let arguments: Vec<String> = std::env::args().skip(1).collect();
+    let words: Vec<&str> = arguments.iter().map(String::as_str).collect();
+    match run(&words) {
+        Ok(()) => ExitCode::SUCCESS,
+        Err(message) => {
+            eprintln!("{message}");
+            ExitCode::FAILURE
+        }
+    }
+}
+
+fn run(words: &[&str]) -> Result<(), String> {
+    match words {
+        ["colours"] => families::print_colours(),
+        ["coverage"] => families::print_coverage(),
+        ["list", file, registers @ ..] if registers.len() == 4 => return list(file, registers),
+        ["bench", mode, times] => bench(mode, times, 0..4)?,
+        ["bench", mode, times, colours] => {
+            let first = number::<u8>(colours)?.min(4);
+            bench(mode, times, first..first + 1)?
+        }
+        [name] => families::print_family(family(name)?),
+        [name, case] => families::print_case(family(name)?, number(case)?),
+        _ => return Err(USAGE.to_string()),
+    }
+    Ok(())
+}
+
+fn family(name: &str) -> Result<&'static families::Family, String> {
+    FAMILIES.iter().find(|family| family.name == name).ok_or(USAGE.to_string())
+}
+
+fn number<T: std::str::FromStr>(word: &str) -> Result<T, String> {
+    word.parse().map_err(|_| format!("not a number in range: {word}"))
+}
+
+fn bench(mode: &str, times: &str, colours: std::ops::Range<u8>) -> Result<(), String> {
+    let mode = number(mode)?;
+    if !matches!(mode, 1..=5 | 7) || colours.end > 4 {
+        return Err("MODE is 1, 2, 3, 4, 5 or 7, COLOURMODE 0 to 3".to_string());
+    }
+    families::print_bench(mode, number(times)?, colours);
+    Ok(())
+}
+
+fn list(file: &str, registers: &[&str]) -> Result<(), String> {
+    let ram = std::fs::read(file).map_err(|error| format!("{file}: {error}"))?;
+    let mut state = nick::State::fresh();
+    for (port, value) in (128..).zip(registers) {
+        nick::write_register(&mut state, port, number(value)?);
+    }
+    let mut text = vec![0; random::LISTING_BUFFER];
+    let length = nick::list_table(&state, &ram, &mut text).map_err(|n| format!("refusal {n}"))?;
+    std::io::stdout().write_all(&text[..length]).map_err(|error| error.to_string())
+}
