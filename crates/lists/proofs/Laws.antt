@@ -2,11 +2,11 @@
 use mathlib.Core.Path.{_≡_, refl, sym, ap, _∙_}
 use mathlib.Core.List.{List, [], _∷_, _++_, append-nil, append-assoc}
 use Prim.Native.Nat.{ℕ, zero, suc, _+_, _-_, _*_, _≤_, _<_}
-use native.Mathlib.Nat.{add-zero, add-suc, not-suc-le-zero, le-of-suc-le-suc}
+use native.Mathlib.Nat.{add-zero, add-suc, not-suc-le-zero}
 use native.Mathlib.Numerals.{add-one}
 use native.Mathlib.Decide.{decLt}
 use native.Mathlib.Omega.{arith}
-use lib.ListN.{length, getD, take, drop, set, replicate, length-append, length-drop, drop-of-length-le, List·getD-append, List·getD-eq-default}
+use lib.ListN.{length, getD, take, drop, set, replicate, length-append, length-drop, drop-of-length-le, replicate-append-replicate, List·getD-append}
 use lib.Seq.{take-at, drop-at, drop-drop, set-at, drop-cons, getD-at}
 use mathlib.Core.Bool.{Bool, true, false}
 use Rattle.lists.specs.Choice.{number}
@@ -17,11 +17,10 @@ module _ {ℓ} {A : Type ℓ} where
   pub front-all : (p d : List A) (n : ℕ) → length d ≤ n → p ++ drop n d ≡ p
   front-all p d n h = rw (drop-of-length-le d h) (append-nil p)
 
-  -- a part at the end of the front, lent and given back as ys, makes the front longer
-  pub lent : (p d ys : List A) (a e : ℕ) → length p ≡ a → a ≤ e → take a (p ++ drop a d) ++ (ys ++ drop (e - a) (drop a (p ++ drop a d))) ≡ (p ++ ys) ++ drop e d
-  lent p d ys a e hp h =
-      let k : a + (e - a) ≡ e = omega arith in
-      rw (take-at p (drop a d) a hp, drop-at p (drop a d) a hp, drop-drop (e - a) a d, k) (sym (append-assoc p ys (drop e d)))
+  -- k places at the end of the front, lent and given back as ys, make the front longer
+  pub lent : (p d ys : List A) (a k : ℕ) → length p ≡ a → take a (p ++ drop a d) ++ (ys ++ drop k (drop a (p ++ drop a d))) ≡ (p ++ ys) ++ drop (a + k) d
+  lent p d ys a k hp =
+      rw (take-at p (drop a d) a hp, drop-at p (drop a d) a hp, drop-drop k a d) (sym (append-assoc p ys (drop (a + k) d)))
 
   -- one place more is stored
   pub stored : (p d : List A) (n : ℕ) (x : A) → length p ≡ n → n < length d → set (p ++ drop n d) n x ≡ (p ++ (x ∷ [])) ++ drop (n + 1) d
@@ -47,3 +46,28 @@ module _ {ℓ} {A : Type ℓ} where
 pub number-le : (b : Bool) → number b ≤ 1
 number-le true = omega arith
 number-le false = omega arith
+
+module _ {ℓ} {A : Type ℓ} where
+  -- two rules that agree on the places make the same list
+  pub tab-same : (f g : ℕ → A) (n : ℕ) → ((i : ℕ) → i < n → f i ≡ g i) → tab f n ≡ tab g n
+  tab-same f g zero h = refl
+  tab-same f g (suc n) h = rw (tab-same f g n (λ i l. h i (omega arith)), h n (omega arith))
+
+  -- a list in two parts
+  pub tab-append : (f : ℕ → A) (n m : ℕ) → tab f (n + m) ≡ tab f n ++ tab (λ i. f (n + i)) m
+  tab-append f n zero = rw (add-zero n) (sym (append-nil (tab f n)))
+  tab-append f n (suc m) = rw (add-suc n m, tab-append f n m) (append-assoc (tab f n) (tab (λ i. f (n + i)) m) (f (n + m) ∷ []))
+
+  -- one value at every place
+  pub tab-one : (x : A) (n : ℕ) → tab (λ i. x) n ≡ replicate n x
+  tab-one x zero = refl
+  tab-one x (suc n) = rw (tab-one x n, replicate-append-replicate n 1 x, add-one n)
+
+module _ {ℓ} {A : Type ℓ} (f : ℕ → A) (d out : List A) (n : ℕ) (made : out ≡ tab f n ++ drop n d) where
+  -- one place more is stored by the rule
+  pub tab-stored : n < length d → set out n (f n) ≡ tab f (n + 1) ++ drop (n + 1) d
+  tab-stored h = rw made (stored (tab f n) d n (f n) (length-tab f n) h ∙ ap (λ (k : ℕ). tab f k ++ drop (n + 1) d) (sym (add-one n)))
+
+  -- all places are stored
+  pub tab-all : length d ≤ n → out ≡ tab f n
+  tab-all h = made ∙ front-all (tab f n) d n h

@@ -1,13 +1,14 @@
 -- Laws that go by the video mode's number.
 use mathlib.Core.Path.{_≡_, refl}
-use mathlib.Core.Bool.{Bool, not, _||_}
+use mathlib.Core.Bool.{Bool, true, false, true≢false, not, _||_, _&&_}
 use Prim.Native.Nat.{ℕ, zero, suc, _-_, _<_, _≤_}
 use native.Mathlib.Nat.{not-suc-le-zero, le-of-suc-le-suc}
 use native.Mathlib.Omega.{arith}
-use lib.Dec.{eqb}
-use Rattle.nick.specs.Slots.{CH, modeNumbered, modeFetches}
+use lib.Dec.{eqb, leb}
+use Rattle.nick.specs.Slots.{CH, modeNumbered, modeFetches, linePointers}
 use Rattle.nick.specs.Sync.{syncs}
 use Rattle.nick.specs.Record.{isUnused}
+use Rattle.nick.specs.declared.Pointers.{Pointers}
 
 -- what holds of 0 to 7 holds below 8
 pub below-eight : (P : ℕ → Type 0) → P 0 → P 1 → P 2 → P 3 → P 4 → P 5 → P 6 → P 7 → (m : ℕ) → m < 8 → P m
@@ -57,3 +58,11 @@ characters m l h = go m (omega arith) l h
         (λ a b. absurd (none 0 (omega arith) a)) (λ a b. absurd (none 1 (omega arith) a)) (λ a b. absurd (none 2 (omega arith) a))
         (λ a b. refl) (λ a b. refl) (λ a b. refl)
         (λ a b. absurd (over 6 b (omega arith))) (λ a b. absurd (over 7 b (omega arith)))
+
+-- in the other modes a scanline's end leaves the pointers
+pub line-still : (p : Pointers) (m : ℕ) → m < 8 → leb 3 m && leb m 5 ≡ false → linePointers (modeNumbered m) p ≡ p
+unfolding modeNumbered
+line-still p =
+    below-eight (λ m. leb 3 m && leb m 5 ≡ false → linePointers (modeNumbered m) p ≡ p)
+    (λ e. refl) (λ e. refl) (λ e. refl) (λ e. absurd (true≢false e)) (λ e. absurd (true≢false e)) (λ e. absurd (true≢false e))
+    (λ e. refl) (λ e. refl)

@@ -1,3 +1,4 @@
 // Painting scanlines.
+mod line;
 mod record;
 mod sync;

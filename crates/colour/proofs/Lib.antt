@@ -1,0 +1,6 @@
+pub mod Cells
+mod Weights
+mod Bits
+mod Alternates
+mod Pixels
+mod External

@@ -1,0 +1,2 @@
+pub mod DotSlots
+pub mod Scanlines

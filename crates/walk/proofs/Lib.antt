@@ -1,0 +1,4 @@
+pub mod Rises
+pub mod Lines
+pub mod Modes
+pub mod Dots

@@ -1,0 +1,32 @@
+-- Laws on mode numbers, and on the character modes over the width of their codes.
+use mathlib.Core.Path.{_≡_, refl}
+use Prim.Native.Nat.{ℕ, zero, suc, _+_, _-_, _*_, _^_, _%_, _≤_, _<_}
+use native.Mathlib.Nat.{mod-lt}
+use native.Mathlib.Omega.{arith}
+use lib.Arith.{digits-lt}
+use lib.Pow.{pow-pos, pow-add}
+use Rattle.nick.specs.Slots.{CH, modeNumbered, fontAddress}
+
+-- the width of the codes in the character modes
+pub character-mode : (n : ℕ) → 3 ≤ n → n ≤ 5 → modeNumbered n ≡ CH (11 - n)
+unfolding modeNumbered
+character-mode zero a b = absurd (omega arith)
+character-mode (suc zero) a b = absurd (omega arith)
+character-mode (suc (suc zero)) a b = absurd (omega arith)
+character-mode (suc (suc (suc zero))) a b = refl
+character-mode (suc (suc (suc (suc zero)))) a b = refl
+character-mode (suc (suc (suc (suc (suc zero))))) a b = refl
+character-mode (suc (suc (suc (suc (suc (suc n)))))) a b = absurd (omega arith)
+
+-- every font address has 16 bits
+pub font-address-sixteen : (width ld2 code : ℕ) → width ≤ 16 → fontAddress width ld2 code < 65536
+unfolding fontAddress
+font-address-sixteen width ld2 code h =
+    let sum : 16 - width + width ≡ 16 = omega arith in
+    let whole : 2 ^ (16 - width) * 2 ^ width ≡ 2 ^ 16 = rw (← pow-add 2 (16 - width) width, sum) in
+    rw whole at (digits-lt (mod-lt ld2 (pow-pos (16 - width))) (mod-lt code (pow-pos width)))
+
+-- the address as computed from the two powers
+pub font-address-of : (width ld2 code rows characters : ℕ) → rows ≡ 2 ^ (16 - width) → characters ≡ 2 ^ width → ld2 % rows * characters + code % characters ≡ fontAddress width ld2 code
+unfolding fontAddress
+font-address-of width ld2 code rows characters r h = rw (r, h)

@@ -1,0 +1,239 @@
+// The walk from line parameter block to line parameter block, and the pointers at a slot, with no scanline or slot stepped
+// singly.
+ghost use mathlib.Core.Path.{_≡_};
+ghost use Prim.Native.Nat.{_+_, _-_, _*_, _^_, _<_, _≤_, min};
+ghost use lib.ListN.{length};
+ghost use Rattle.lists.specs.Choice.{pick};
+ghost use Rattle.nick.specs.Blocks.{vres};
+ghost use Rattle.nick.specs.Slots.{leftMargin, rightMargin, modeNumbered, fontAddress};
+ghost use Rattle.nick.specs.Scanline.{pointersAfter};
+ghost use Rattle.nick.specs.Refusals.{loadPastEnd};
+ghost use Rattle.walk.specs.Steps.{stepsOf, advanced, activeBefore, skipped};
+ghost use Rattle.walk.specs.Walks.{Formed, Turns, Walks};
+use nick::Block;
+use nick::Pointers;
+use nick::Registers;
+use nick::Scan;
+
+// By how much LD1 and LD2 go up at an active slot, and LD2 at a scanline's end.
+pub struct Steps {
+    pub ld1: u16,
+    pub ld2: u16,
+    pub line: u16,
+}
+
+// One turn of the walk: whether a block to be loaded runs past the end of RAM; else how many scanlines it went on, and the
+// scan after them.
+pub struct Turned {
+    pub past: bool,
+    pub lines: usize,
+    pub scan: Scan,
+}
+
+// What the walk answers: whether a block to be loaded runs past the end of RAM, else the scan that it came to.
+pub struct Walked {
+    pub past: bool,
+    pub scan: Scan,
+}
+
+// The smaller of two numbers.
+fn smaller(a: u16, b: u16) -> u16
+    ensures { λ r. ⌜ r ≡ min a b ⌝ }
+{
+    if a < b { a } else { b }
+}
+
+// The first slot that may be active.
+pub fn left_margin(block: Block) -> u16
+    ensures { λ r. ⌜ (r ≡ leftMargin block) × (8 ≤ r) × (r < 64) ⌝ }
+{
+    let slot = block.lm as u16 % 64;
+    if slot < 8 { 8 } else { slot }
+}
+
+// The slot after the last that may be active.
+pub fn right_margin(block: Block) -> u16
+    ensures { λ r. ⌜ (r ≡ rightMargin block) × (r ≤ 54) ⌝ }
+{
+    smaller(block.rm as u16 % 64, 54)
+}
+
+// How many of the first `slots` dot slots are active.
+pub fn active_before(block: Block, slots: u16) -> u16
+    requires { ⌜ slots ≤ 46 ⌝ }
+    ensures { λ r. ⌜ (r ≡ activeBefore block slots) × (r ≤ 46) ⌝ }
+{
+    let left = left_margin(block);
+    let end = smaller(right_margin(block), 8 + slots);
+    if left < end { end - left } else { 0 }
+}
+
+// The steps of a video mode.
+pub fn steps_of(mode: u8) -> Steps
+    requires { ⌜ mode < 8 ⌝ }
+    ensures { λ r. ⌜ (r ≡ stepsOf (modeNumbered mode)) × (r .ld1 ≤ 2) × (r .ld2 ≤ 1) × (r .line ≤ 1) ⌝ }
+{
+    match mode {
+        1 => Steps {
+            ld1: 2,
+            ld2: 0,
+            line: 0,
+        },
+        2 => Steps {
+            ld1: 1,
+            ld2: 1,
+            line: 0,
+        },
+        3..=5 => Steps {
+            ld1: 1,
+            ld2: 0,
+            line: 1,
+        },
+        7 => Steps {
+            ld1: 1,
+            ld2: 0,
+            line: 0,
+        },
+        _ => Steps {
+            ld1: 0,
+            ld2: 0,
+            line: 0,
+        },
+    }
+}
+
+// LD1 gone up by `ld1` and LD2 by `ld2`.
+fn advance(at: Pointers, ld1: u16, ld2: u16) -> Pointers
+    ensures { λ r. ⌜ r ≡ advanced ld1 ld2 at ⌝ }
+{
+    Pointers {
+        ld1: std::num::wrapping_add_u16(at.ld1, ld1),
+        ld2: std::num::wrapping_add_u16(at.ld2, ld2),
+    }
+}
+
+// The pointers at dot slot `slot`, where `at` are those at the first.
+pub fn pointers_at(block: Block, at: Pointers, slot: u16) -> Pointers
+    requires { ⌜ slot ≤ 46 ⌝ }
+    ensures { λ r. ⌜ r ≡ pointersAfter block slot at ⌝ }
+{
+    let steps = steps_of(block.mb / 2 % 8);
+    let active = active_before(block, slot);
+    advance(at, steps.ld1 * active, steps.ld2 * active)
+}
+
+// Over how many of `lines` scanlines of a mode line LD1 goes on: over all with VRES, else over the last alone.
+fn lines_of_ld1(block: Block, lines: u16) -> u16
+    requires { ⌜ lines ≤ 256 ⌝ }
+    ensures { λ r. ⌜ (r ≡ pick (vres block) lines 1) × (r ≤ 256) ⌝ }
+{
+    if block.mb / 16 % 2 == 1 { lines } else { 1 }
+}
+
+// The scan after `lines` scanlines of a mode line, from the scan as the first of them begins.
+fn skip(scan: Scan, lines: u16) -> Scan
+    requires { ⌜ (lines ≤ 256) × (lines ≤ scan .left) ⌝ }
+    ensures { λ r. ⌜ r ≡ skipped scan lines ⌝ }
+{
+    let block = scan.block;
+    let steps = steps_of(block.mb / 2 % 8);
+    let active = active_before(block, 46);
+    let ld1 = lines_of_ld1(block, lines) * (steps.ld1 * active);
+    let ld2 = lines * (steps.ld2 * active + steps.line);
+    let at = scan.at;
+    let at = advance(at, ld1, ld2);
+    Scan {
+        pending: scan.pending,
+        block,
+        number: scan.number,
+        at,
+        left: scan.left - lines,
+    }
+}
+
+// How many of the next `lines` scanlines belong to the mode line that has begun, or one where a reload is pending.
+fn lines_inside(scan: Scan, lines: usize) -> u16
+    ensures { λ r. ⌜ r ≡ pick (scan .pending) 1 (min (scan .left) lines) ⌝ }
+{
+    if scan.pending {
+        return 1;
+    }
+    if lines < scan.left as usize {
+        return lines as u16;
+    }
+    scan.left
+}
+
+// Whether the next scanline loads a block that would run past the end of RAM.
+pub fn loads_past_end(registers: Registers, scan: Scan) -> bool
+    requires { ⌜ scan .number < 4096 ⌝ }
+    ensures { λ r. ⌜ r ≡ loadPastEnd registers scan ⌝ }
+{
+    if blocks::is_loading(scan) {
+        let number = blocks::loaded_number(registers, scan) as usize;
+        65536 < 16 * number + 16
+    } else {
+        false
+    }
+}
+
+// One turn: the scanlines up to the next load, at most `lines` of them.
+fn turn(registers: Registers, ram: &[u8], scan: Scan, lines: usize) -> Turned
+    requires { ⌜ (length (now ram) ≡ 65536) × Formed scan × (1 ≤ lines) ⌝ }
+    ensures { λ r. ⌜ Turns registers (now (ram .entry)) scan lines r ⌝ }
+{
+    if loads_past_end(registers, scan) {
+        return Turned {
+            past: true,
+            lines: 0,
+            scan,
+        };
+    }
+    let begun = blocks::begin(registers, ram, scan);
+    let n = lines_inside(begun, lines);
+    let scan = skip(begun, n);
+    Turned {
+        past: false,
+        lines: n as usize,
+        scan,
+    }
+}
+
+// The scan after `lines` scanlines, from block to block; `past` where a block to be loaded would run past the end of RAM.
+pub fn walk(registers: Registers, ram: &[u8], scan: Scan, lines: usize) -> Walked
+    requires { ⌜ (length (now ram) ≡ 65536) × Formed scan ⌝ }
+    ensures { λ r. ⌜ Walks registers (now (ram .entry)) scan lines r ⌝ }
+{
+    let mut at = scan;
+    let mut done = 0;
+    while done < lines {
+        let turned = turn(registers, ram, at, lines - done);
+        if turned.past {
+            return Walked { past: true, scan };
+        }
+        at = turned.scan;
+        done += turned.lines;
+    }
+    Walked {
+        past: false,
+        scan: at,
+    }
+}
+
+// 2 to the power n.
+fn power(n: u8) -> u32
+    requires { ⌜ n ≤ 16 ⌝ }
+    ensures { λ r. ⌜ (r ≡ 2 ^ n) × (1 ≤ r) × (r ≤ 65536) ⌝ }
+{
+    1u32 << n
+}
+
+// The address of a character's display byte, its code having `width` bits.
+pub fn font_address(width: u8, ld2: u16, code: u8) -> u16
+    requires { ⌜ (6 ≤ width) × (width ≤ 8) ⌝ }
+    ensures { λ r. ⌜ r ≡ fontAddress width ld2 code ⌝ }
+{
+    let rows = power(16 - width);
+    let characters = power(width);
+    (ld2 as u32 % rows * characters + code as u32 % characters) as u16
+}
