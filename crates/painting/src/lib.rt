@@ -1,4 +1,140 @@
-// Painting scanlines.
+// Painting scanlines: one, and 1 to 1,024 in order, with every refusal of the table. The refusals come first, then the
+// scanlines one after another.
+ghost use mathlib.Core.Path.{_≡_};
+ghost use Prim.Native.Nat.{_+_, _*_, _-_, _<_, _≤_};
+ghost use lib.ListN.{length};
+ghost use Rattle.nick.specs.Refusals.{paintingRefusal};
+ghost use mathlib.Core.Bool.{_||_};
+ghost use lib.Dec.{eqb};
+ghost use Rattle.painting.specs.Frames.{Accepted, NextLine, Frame, Paints};
+
 mod line;
 mod record;
 mod sync;
+
+use line::paint_scanline;
+use nick::Painted;
+use nick::State;
+
+// External input is empty, or one byte for each dot.
+fn external_fits(length: usize, height: usize) -> bool
+    requires { ⌜ height ≤ 1024 ⌝ }
+    ensures { λ r. ⌜ r ≡ eqb length 0 || eqb length (736 * height) ⌝ }
+{
+    length == 0 || length == 736 * height
+}
+
+// The refusal of a painting, 0 for none: the tests in the order of their numbers.
+fn refusal(
+    state: State,
+    ram: &[u8],
+    height: usize,
+    dots: &[u8],
+    records: &[u8],
+    external: &[u8],
+) -> u8
+    ensures { λ r. ⌜ r ≡ paintingRefusal state (now (ram .entry)) height (now (dots .entry)) (now (records .entry)) (now (external .entry)) ⌝ }
+{
+    if 256 < state.scan.left {
+        return 3;
+    }
+    if 4095 < state.scan.number {
+        return 3;
+    }
+    if ram.len() != 65536 {
+        return 4;
+    }
+    if height == 0 {
+        return 5;
+    }
+    if 1024 < height {
+        return 5;
+    }
+    if dots.len() != 736 * height {
+        return 6;
+    }
+    if records.len() != 4 * height {
+        return 7;
+    }
+    if !external_fits(external.len(), height) {
+        return 8;
+    }
+    if walk::walk(state.registers, ram, state.scan, height).past {
+        return 11;
+    }
+    0
+}
+
+// Paints line `y` of a frame into its parts of the buffers.
+fn next_line(
+    state: State,
+    ram: &[u8],
+    y: usize,
+    dots: &mut [u8],
+    records: &mut [u8],
+    external: &[u8],
+) -> State
+    requires { ⌜ (length (now ram) ≡ 65536) × (y < 1024) × (736 * y + 736 ≤ length (now dots)) × (4 * y + 4 ≤ length (now records)) ⌝ }
+    requires { ⌜ (state .scan .number < 4096) × (state .scan .left ≤ 256) ⌝ }
+    ensures { λ r. ⌜ NextLine state (now (ram .entry)) y (now (external .entry)) (now (dots .entry)) (now (dots .exit)) (now (records .entry)) (now (records .exit)) r ⌝ }
+{
+    let a = 736 * y;
+    let e = a + 736;
+    let b = 4 * y;
+    let f = b + 4;
+    paint_scanline(state, ram, &mut dots[a..e], &mut records[b..f], external, a)
+}
+
+// Paints the lines of a frame that is not refused.
+fn paint_accepted(
+    state: State,
+    ram: &[u8],
+    height: usize,
+    dots: &mut [u8],
+    records: &mut [u8],
+    external: &[u8],
+) -> State
+    requires { ⌜ Accepted state (now ram) height (now dots) (now records) ⌝ }
+    ensures { λ r. ⌜ Frame state (now (ram .entry)) height (now (external .entry)) (now (dots .exit)) (now (records .exit)) r ⌝ }
+{
+    let mut next = state;
+    let mut y = 0;
+    while y < height {
+        next = next_line(next, ram, y, dots, records, external);
+        y += 1;
+    }
+    next
+}
+
+// Paints `height` scanlines, or refuses: then the state and the dots stay, and every record byte is 255.
+pub fn paint_lines(
+    state: State,
+    ram: &[u8],
+    height: usize,
+    dots: &mut [u8],
+    records: &mut [u8],
+    external: &[u8],
+) -> Painted
+    ensures { λ r. ⌜ Paints state (now (ram .entry)) height (now (dots .entry)) (now (records .entry)) (now (external .entry)) (now (dots .exit)) (now (records .exit)) r ⌝ }
+{
+    let refusal = refusal(state, ram, height, dots, records, external);
+    if refusal != 0 {
+        lists::fill(records, 255);
+        return Painted { refusal, state };
+    }
+    let state = paint_accepted(state, ram, height, dots, records, external);
+    Painted { refusal: 0, state }
+}
+
+// Paints one scanline, or refuses.
+pub fn paint_line(
+    state: State,
+    ram: &[u8],
+    dots: &mut [u8],
+    records: &mut [u8],
+    external: &[u8],
+) -> Painted
+    ensures { λ r. ⌜ Paints state (now (ram .entry)) 1 (now (dots .entry)) (now (records .entry)) (now (external .entry)) (now (dots .exit)) (now (records .exit)) r ⌝ }
+{
+    paint_lines(state, ram, 1, dots, records, external)
+}

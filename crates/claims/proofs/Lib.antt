@@ -1,0 +1,12 @@
+pub mod Rows
+pub mod Scanlines
+pub mod Slots
+pub mod Frames
+pub mod Refusals
+pub mod Paintings
+pub mod Records
+pub mod WellFormed
+pub mod InsideRam
+pub mod Demand3
+pub mod Dependence
+pub mod Demand3Examples

@@ -1,0 +1,94 @@
+-- Demand 3 (document 01, "The direct answer"): over any list of paintings the direct answer is the painted dot, and it depends
+-- on few bytes of RAM.
+use mathlib.Core.Path.{_≡_}
+use mathlib.Core.Bool.{false}
+use mathlib.Core.List.{List, [], _∷_, _++_, map}
+use Prim.Native.Nat.{ℕ, _+_, _-_, _*_, _≤_, _<_}
+use lib.Dec.{eqb}
+use lib.ListN.{length}
+use Rattle.lists.specs.Choice.{pick}
+use Rattle.nick.specs.Numbers.{byteAt}
+use Rattle.nick.specs.Refusals.{illFormed}
+use Rattle.nick.specs.Painting.{Painting, paint, paintLine}
+use Rattle.nick.specs.Direct.{direct, directNames, dependsOn, colour}
+use Rattle.nick.specs.declared.State.{State}
+
+-- "Demand 3's list holds calls of both paintings, with any height and buffers."
+pub data Call : Type 0 where
+  oneLine : (dots records external : List ℕ) → Call
+  lines : (height : ℕ) (dots records external : List ℕ) → Call
+
+abbrev pub heightOf : Call → ℕ
+heightOf (oneLine dots records external) = 1
+heightOf (lines height dots records external) = height
+
+abbrev pub externalOf : Call → List ℕ
+externalOf (oneLine dots records external) = external
+externalOf (lines height dots records external) = external
+
+-- what a call leaves, made from a state
+abbrev pub paintingOf : State → List ℕ → Call → Painting
+paintingOf s ram (oneLine dots records external) = paintLine s ram dots records external
+paintingOf s ram (lines height dots records external) = paint s ram height dots records external
+
+-- a call that was made, with what it left
+pub record Made : Type 0 where
+  pub call : Call
+  pub painting : Painting
+
+-- "The first gets the state given, each other the one that the call before it returned, refused or not; nothing else changes
+-- it."
+abbrev pub run : State → List ℕ → List Call → List Made
+run s ram [] = []
+run s ram (c ∷ more) = record { call = c; painting = paintingOf s ram c } ∷ run (paintingOf s ram c .state) ram more
+
+-- "Lines count on from 0 over the list, a refused painting adding none"
+abbrev pub linesOf : Made → ℕ
+linesOf m = pick (eqb (m .painting .refusal) 0) (heightOf (m .call)) 0
+
+abbrev pub linesIn : List Made → ℕ
+linesIn [] = 0
+linesIn (m ∷ more) = linesOf m + linesIn more
+
+-- "a line's place in the buffers is counted from 0 within its own painting": the place of dot x of line y, where b lines were
+-- painted before that painting
+abbrev pub placeOf : ℕ → ℕ → ℕ → ℕ
+placeOf b y x = 736 * (y - b) + x
+
+-- m is accepted and paints line y of the list, `before` being the calls made before it
+pub record PaintsLine (before : List Made) (m : Made) (y : ℕ) : Type 0 where
+  pub accepted : m .painting .refusal ≡ 0
+  pub first : linesIn before ≤ y
+  pub last : y < linesIn before + heightOf (m .call)
+
+-- The direct answer is the painted dot: from a well-formed state and with a RAM of full length, whatever calls are made, the
+-- painting of line y holds at dot x the colour of the direct answer, which is no refusal and names the rules' addresses.
+-- "A dot's external byte is the one lent for it to the painting of its line, 0 if that input is empty. This is a single claim
+-- about the list, not one for each call."
+abbrev pub Demand3 : Type 0
+Demand3 =
+    (s : State) (ram : List ℕ) (calls : List Call) (before : List Made) (m : Made) (after : List Made) (y x : ℕ)
+    → illFormed (s .scan) ≡ false
+    → length ram ≡ 65536
+    → y ≤ 1023
+    → x ≤ 735
+    → run s ram calls ≡ before ++ (m ∷ after)
+    → PaintsLine before m y
+    → direct s ram y x (byteAt (externalOf (m .call)) (placeOf (linesIn before) y x))
+    ≡ colour (byteAt (m .painting .dots) (placeOf (linesIn before) y x)) (directNames s ram y x)
+
+-- Demand 3 speaks of every line: each line that a list paints is the line of one accepted painting in it.
+abbrev pub EveryLine : Type 0
+EveryLine =
+    (all : List Made) (y : ℕ)
+    → y < linesIn all
+    → (before : List Made) × (m : Made) × (after : List Made) × (all ≡ before ++ (m ∷ after)) × PaintsLine before m y
+
+-- The direct answer depends on the bytes at the addresses that `dependsOn` lists, and on no others: another RAM of the same
+-- length with the same bytes there gives the same answer. "The same answer means all that is returned."
+abbrev pub Dependence : Type 0
+Dependence =
+    (s : State) (ram other : List ℕ) (y x e : ℕ)
+    → length other ≡ length ram
+    → map (byteAt other) (dependsOn s ram y x) ≡ map (byteAt ram) (dependsOn s ram y x)
+    → direct s other y x e ≡ direct s ram y x e

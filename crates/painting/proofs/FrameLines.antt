@@ -1,0 +1,92 @@
+-- Laws on the lines of a frame: one line more, all lines, and what an accepted painting has.
+use mathlib.Core.Path.{_≡_, refl, sym, ap, _∙_}
+use mathlib.Core.Bool.{Bool, true, false, not}
+use mathlib.Core.List.{List, _++_}
+use Prim.Native.Nat.{ℕ, zero, suc, _+_, _*_, _≤_, _<_}
+use native.Mathlib.Numerals.{add-one}
+use native.Mathlib.Omega.{arith}
+use lib.Dec.{eqb, ltb}
+use lib.ListN.{length, take, drop, replicate}
+use borrow.Author.Tests.{ltb-false, eqb-true, not-false}
+use Rattle.lists.proofs.Laws.{lent, front-all}
+use Rattle.nick.specs.Scanline.{lineDots, nextScan}
+use Rattle.nick.specs.Record.{lineRecord, nextState, stateAfter}
+use Rattle.nick.specs.Refusals.{illFormed, notFull, badHeight, badDots, badRecords, badExternal, pastEnd, paintingRefusal}
+use Rattle.nick.specs.Painting.{externalAt, frameDots, frameRecords, painted, refusedPainting}
+use Rattle.nick.specs.declared.State.{State}
+use Rattle.nick.proofs.WellFormed.{next-number, next-left}
+use Rattle.claims.proofs.Scanlines.{registers-kept}
+use Rattle.claims.proofs.Frames.{length-dots, length-records}
+use Rattle.claims.proofs.Refusals.{not-picked, rest-zero, or-first, or-rest}
+use Rattle.claims.proofs.Paintings.{accepted-is, refused-is}
+use Rattle.painting.specs.Frames.{Accepted, Frame, Paints}
+
+-- the state after a scanline is well-formed
+pub next-formed : (ram : List ℕ) (s : State) → s .registers .lpl < 256 → s .scan .number < 4096 → s .scan .left ≤ 256
+    → (nextState ram s .scan .number < 4096) × (nextState ram s .scan .left ≤ 256)
+unfolding nextState
+next-formed ram s h n l = (next-number (s .registers) ram (s .scan) h n, next-left (s .registers) ram (s .scan) l)
+
+module _ (ram external : List ℕ) (s t : State) (y : ℕ) (after : t ≡ stateAfter ram y s) where
+  -- one line more, painted into its part of the dots
+  pub dots-more : (d out : List ℕ)
+      → out ≡ frameDots ram external y s ++ drop (736 * y) d
+      → take (736 * y) out ++ (lineDots (t .registers) ram (t .scan) (externalAt external y) ++ drop 736 (drop (736 * y) out))
+      ≡ frameDots ram external (y + 1) s ++ drop (736 * (y + 1)) d
+  dots-more d out e =
+      let next : 736 * suc y ≡ 736 * y + 736 = omega arith in
+      rw (e, after, registers-kept ram y s, add-one y, next)
+      (lent (frameDots ram external y s) d (lineDots (s .registers) ram (stateAfter ram y s .scan) (externalAt external y)) (736 * y) 736
+      (length-dots ram external s y))
+
+  -- and its record into its part of the records
+  pub records-more : (d out : List ℕ)
+      → out ≡ frameRecords ram y s ++ drop (4 * y) d
+      → take (4 * y) out ++ (lineRecord ram t ++ drop 4 (drop (4 * y) out))
+      ≡ frameRecords ram (y + 1) s ++ drop (4 * (y + 1)) d
+  records-more d out e =
+      let next : 4 * suc y ≡ 4 * y + 4 = omega arith in
+      rw (e, after, add-one y, next)
+      (lent (frameRecords ram y s) d (lineRecord ram (stateAfter ram y s)) (4 * y) 4 (length-records ram s y))
+
+-- what the refusal table says of a painting that is not refused
+pub accepted-facts : (s : State) (ram : List ℕ) (h : ℕ) (dots records external : List ℕ)
+    → paintingRefusal s ram h dots records external ≡ 0
+    → Accepted s ram h dots records
+unfolding paintingRefusal
+accepted-facts s ram h dots records external e =
+    let e₄ = rest-zero (illFormed (s .scan)) 2 _ e in
+    let e₅ = rest-zero (notFull ram) 3 _ e₄ in
+    let e₆ = rest-zero (badHeight h) 4 _ e₅ in
+    let e₇ = rest-zero (badDots h dots) 5 _ e₆ in
+    let formed = not-picked (illFormed (s .scan)) 2 _ e in
+    let height = not-picked (badHeight h) 4 _ e₅ in
+    let left = ltb-false 256 (s .scan .left) (or-first (ltb 256 (s .scan .left)) (ltb 4095 (s .scan .number)) formed) in
+    let number = ltb-false 4095 (s .scan .number) (or-rest (ltb 256 (s .scan .left)) (ltb 4095 (s .scan .number)) formed) in
+    let most = ltb-false 1024 h (or-rest (eqb h 0) (ltb 1024 h) height) in
+    record {
+      number = omega arith;
+      left = left;
+      full = eqb-true (length ram) 65536 (not-false (eqb (length ram) 65536) (not-picked (notFull ram) 3 _ e₄));
+      height = most;
+      places = eqb-true (length dots) (736 * h) (not-false (eqb (length dots) (736 * h)) (not-picked (badDots h dots) 5 _ e₆));
+      bytes = eqb-true (length records) (4 * h) (not-false (eqb (length records) (4 * h)) (not-picked (badRecords h records) 6 _ e₇));
+    }
+
+module _ (s : State) (ram : List ℕ) (h : ℕ) (dots records external : List ℕ) (n : ℕ)
+    (given : n ≡ paintingRefusal s ram h dots records external) where
+  -- a refusal keeps the state and the dots, and stamps the records
+  pub paints-refused : (stamped : List ℕ) → (n ≡ 0 → ⊥) → stamped ≡ replicate (length records) 255
+      → Paints s ram h dots records external dots stamped (record { refusal = n; state = s })
+  unfolding refusedPainting
+  paints-refused stamped refused e =
+      let is = refused-is s ram h dots records external (λ z. refused (given ∙ z)) in
+      record { refusal = rw is given; state = rw is; dots = rw is; records = rw is e }
+
+  -- else the lines are painted
+  pub paints-accepted : (dots₁ records₁ : List ℕ) (t : State) → n ≡ 0 → Frame s ram h external dots₁ records₁ t
+      → Paints s ram h dots records external dots₁ records₁ (record { refusal = 0; state = t })
+  unfolding painted
+  paints-accepted dots₁ records₁ t accepted frame =
+      let is = accepted-is s ram h dots records external (sym given ∙ accepted) in
+      record { refusal = rw is; state = rw is (frame .state); dots = rw is (frame .dots); records = rw is (frame .records) }

@@ -1,0 +1,58 @@
+-- `painting::paint_lines`: the table decides, and each case is the rules' painting.
+use mathlib.Core.Path.{_≡_, sym, _∙_}
+use native.Mathlib.Omega.{arith}
+use Rattle.painting.proofs.FrameLines.{accepted-facts, paints-refused, paints-accepted}
+use borrow.Author.Needs.{needs}
+use Rattle.painting.proofs.paint_lines.Statement.{statement}
+use Rattle.painting.proofs.paint_lines.Tie as tie
+
+refusal-requires : tie.Need-refusal-requires
+refusal-requires c κs = search needs
+
+fill-requires : tie.Need-fill-requires
+fill-requires c κs = search needs
+
+same-length : tie.Need-same-length
+same-length c = search needs
+
+same-length-2 : tie.Need-same-length-2
+same-length-2 c = search needs
+
+returns : tie.Need-returns
+returns c =
+    let a = c .before .before .before .before .before .before .before .before .before .before .before .before .args in
+    paints-refused (a .state) (a .ram .now) (a .height) (a .dots .now) (a .records .now) (a .external .now) (c .before .before .before .before .before .refusal .result) (c .before .before .before .before .before .refusal .ensures) _
+    (c .before .before .before .before .if1 .taken) (c .before .before .fill .ensures)
+
+paint-accepted-requires : tie.Need-paint-accepted-requires
+paint-accepted-requires c κs =
+    let a = c .before .before .before .before .before .before .before .before .before .before .args in
+    let none : c .before .before .before .refusal .result ≡ 0 = omega arith in
+    accepted-facts (a .state) (a .ram .now) (a .height) (a .dots .now) (a .records .now) (a .external .now) (sym (c .before .before .before .refusal .ensures) ∙ none)
+
+same-length-3 : tie.Need-same-length-3
+same-length-3 c = search needs
+
+same-length-4 : tie.Need-same-length-4
+same-length-4 c = search needs
+
+returns-2 : tie.Need-returns-2
+returns-2 c =
+    let a = c .before .before .before .before .before .before .before .before .before .before .before .before .before .before .before .args in
+    let none : c .before .before .before .before .before .before .before .before .refusal .result ≡ 0 = omega arith in
+    paints-accepted (a .state) (a .ram .now) (a .height) (a .dots .now) (a .records .now) (a .external .now) (c .before .before .before .before .before .before .before .before .refusal .result) (c .before .before .before .before .before .before .before .before .refusal .ensures) _ _ _
+    none (c .before .before .before .before .paint-accepted .ensures)
+
+pub paint-lines-spec : {M : Type 1} → statement M
+paint-lines-spec =
+    tie.close
+    (tie.spec
+    refusal-requires
+    fill-requires
+    same-length
+    same-length-2
+    returns
+    paint-accepted-requires
+    same-length-3
+    same-length-4
+    returns-2)
