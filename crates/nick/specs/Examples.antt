@@ -114,6 +114,8 @@ examples =
     }
     -- P11 sequence above: sync counts 0, 0, 0, 51, 57, 32, then 0.
     ∷ record { got = tab syncSlots 8; want = 0 ∷ 0 ∷ 0 ∷ 51 ∷ 57 ∷ 32 ∷ 0 ∷ 0 ∷ [] }
+    -- "(off wins)": both margins at slot 20, and sync on before, count slots 0 to 19.
+    ∷ record { got = lineSyncCount (block 0 20 20) true ∷ []; want = 20 ∷ [] }
     -- P12 priority 2, internal 3: input 135 wins, 136 doesn't; priority 3: 136 wins, 132 doesn't.
     ∷ record { got = wins 2 135 ∷ wins 2 136 ∷ wins 3 136 ∷ wins 3 132 ∷ []; want = 1 ∷ 0 ∷ 1 ∷ 0 ∷ [] }
     ∷ []

@@ -1,0 +1,29 @@
+// The random cases of second/README.md, for the programs that run the proved code on them: the generator, the head of a case,
+// video RAM, the digest, and the lines that are printed.
+mod digest;
+mod head;
+mod print;
+mod ram;
+mod source;
+mod trouble;
+
+pub use digest::START;
+pub use digest::digest_byte;
+pub use digest::digest_bytes;
+pub use digest::digest_state;
+pub use digest::digest_word;
+pub use head::Case;
+pub use head::Head;
+pub use head::begin;
+pub use head::word;
+pub use print::count;
+pub use print::print_line;
+pub use print::print_tally;
+pub use ram::begin_with_ram;
+pub use ram::draw_plain_ram;
+pub use ram::no_reload;
+pub use source::Source;
+pub use source::draw;
+pub use trouble::befalls;
+pub use trouble::ram_length;
+pub use trouble::troubled;
