@@ -1,4 +1,5 @@
 pub mod Rises
 pub mod Lines
+pub mod Walking
 pub mod Modes
 pub mod Dots

@@ -1,16 +1,14 @@
 -- Laws on several scanlines: those of one mode line in one step, and a run of scanlines in two parts.
-use mathlib.Core.Path.{_≡_, refl, sym, ap, _∙_}
-use mathlib.Core.Bool.{Bool, true, false, not, _||_, true≢false}
+use mathlib.Core.Path.{_≡_, refl, ap, _∙_}
+use mathlib.Core.Bool.{Bool, true, false, _||_}
 use mathlib.Core.List.{List}
-use Prim.Native.Nat.{ℕ, zero, suc, _+_, _-_, _*_, _%_, _≤_, _<_, min}
-use native.Mathlib.Nat.{add-zero, add-suc, one-mul, suc-mul, zero-lt-suc, not-suc-le-zero, lt-irrefl}
+use Prim.Native.Nat.{ℕ, zero, suc, _+_, _-_, _*_, _<_}
+use native.Mathlib.Nat.{add-zero, add-suc, one-mul, suc-mul, zero-lt-suc}
 use native.Mathlib.Omega.{arith}
-use lib.Dec.{eqb}
-use borrow.Author.Tests.{ne-eqb, eqb-false}
+use borrow.Author.Tests.{ne-eqb}
 use Rattle.lists.specs.Choice.{pick}
-use Rattle.nick.specs.Numbers.{isSet, up}
-use Rattle.nick.specs.Registers.{baseNumber}
-use Rattle.nick.specs.Blocks.{vres, reload, loads, loadedNumber, blockAt, loaded, continued, begun}
+use Rattle.nick.specs.Numbers.{up}
+use Rattle.nick.specs.Blocks.{vres, loads, loadedNumber, blockAt, loaded, continued, begun}
 use Rattle.nick.specs.Slots.{modeOf, linePointers}
 use Rattle.nick.specs.Scanline.{ended, nextScan, scanAfter, pointersAfter}
 use Rattle.nick.specs.Refusals.{loadPastEnd, pastEnd}
@@ -19,7 +17,6 @@ use Rattle.nick.specs.declared.Pointers.{Pointers}
 use Rattle.nick.specs.declared.Block.{Block}
 use Rattle.nick.specs.declared.Scan.{Scan}
 use Rattle.walk.specs.Steps.{stepsOf, advanced, rise1, rise2, lineRise2, skipped}
-use Rattle.walk.specs.Walks.{Formed, Reached}
 use Rattle.walk.proofs.Rises.{Sixteen, advanced-twice, advanced-sixteen, line-advances, pointers-after}
 
 pick-same {ℓ} : {A : Type ℓ} (t : Bool) (a : A) → pick t a a ≡ a
@@ -38,6 +35,10 @@ or-assoc : (a b c : Bool) → (a || b) || c ≡ a || (b || c)
 or-assoc true b c = refl
 or-assoc false b c = refl
 
+-- a scan that begins, by whether it loads
+abbrev pub begunBy : Bool → Registers → List ℕ → Scan → Scan
+begunBy t g ram c = pick t (loaded g (loadedNumber g c) (blockAt ram (loadedNumber g c))) (continued c)
+
 -- LD1 of a scan that has begun stands at its restart
 restarted : Scan → Type 0
 restarted d = pick (vres (d .block)) (d .at .ld1) (d .block .start .ld1) ≡ d .at .ld1
@@ -46,7 +47,7 @@ begun-restarted : (g : Registers) (ram : List ℕ) (c : Scan) → restarted (beg
 unfolding restarted begun continued loaded
 begun-restarted g ram c = go (loads c)
   where
-    go : (t : Bool) → restarted (pick t (loaded g (loadedNumber g c) (blockAt ram (loadedNumber g c))) (continued c))
+    go : (t : Bool) → restarted (begunBy t g ram c)
     go true = pick-same (vres (blockAt ram (loadedNumber g c))) (blockAt ram (loadedNumber g c) .start .ld1)
     go false = pick-twice (vres (c .block)) (c .at .ld1) (c .block .start .ld1)
 
@@ -124,86 +125,3 @@ pub past-end-add : (g : Registers) (ram : List ℕ) (c : Scan) (m n : ℕ) → p
 past-end-add g ram c m zero = rw (add-zero m, or-false (pastEnd g ram m c))
 past-end-add g ram c m (suc n) =
     rw (add-suc m n, past-end-add g ram c m n, scan-after-add g ram c m n) (or-assoc (pastEnd g ram m c) (pastEnd g ram n (scanAfter g ram m c)) (loadPastEnd g (scanAfter g ram n (scanAfter g ram m c))))
-
-or-right : (a b : Bool) → a || b ≡ false → b ≡ false
-or-right true b h = absurd (true≢false h)
-or-right false b h = h
-
-begun-left : (g : Registers) (ram : List ℕ) (c : Scan) → c .left ≤ 256 → begun g ram c .block .sc < 256 → (1 ≤ begun g ram c .left) × (begun g ram c .left ≤ 256)
-unfolding begun continued loaded
-begun-left g ram c h = go (loads c) refl
-  where
-    go : (t : Bool) → loads c ≡ t → pick t (loaded g (loadedNumber g c) (blockAt ram (loadedNumber g c))) (continued c) .block .sc < 256 → (1 ≤ pick t (loaded g (loadedNumber g c) (blockAt ram (loadedNumber g c))) (continued c) .left) × (pick t (loaded g (loadedNumber g c) (blockAt ram (loadedNumber g c))) (continued c) .left ≤ 256)
-    go true e s = (omega arith, omega arith)
-    go false e s =
-        let some : c .left ≡ 0 → ⊥ = eqb-false (c .left) 0 (or-right (c .pending) (eqb (c .left) 0) e) in
-        (omega arith, h)
-
-loaded-number-below : (g : Registers) (c : Scan) → g .lpl < 256 → c .number < 4096 → loadedNumber g c < 4096
-unfolding loadedNumber
-loaded-number-below g c l h = go (c .pending) (reload (c .block)) (not (isSet 6 (g .lph)))
-  where
-    go : (p q r : Bool) → pick p (baseNumber g) (pick q (baseNumber g) (pick r (c .number) ((c .number + 1) % 4096))) < 4096
-    go true q r = omega arith
-    go false true r = omega arith
-    go false false true = h
-    go false false false = omega arith
-
-begun-number : (g : Registers) (ram : List ℕ) (c : Scan) → g .lpl < 256 → c .number < 4096 → begun g ram c .number < 4096
-unfolding begun continued loaded
-begun-number g ram c l h = go (loads c)
-  where
-    go : (t : Bool) → pick t (loaded g (loadedNumber g c) (blockAt ram (loadedNumber g c))) (continued c) .number < 4096
-    go true = loaded-number-below g c l h
-    go false = h
-
--- a well-formed scan begins well-formed, with a scanline left
-pub begun-formed : (g : Registers) (ram : List ℕ) (c d : Scan) → d ≡ begun g ram c → Formed c → d .block .sc < 256 → g .lpl < 256 → (1 ≤ d .left) × Formed d
-begun-formed g ram c d e f s l =
-    let k = begun-left g ram c (f .left) (rw e at s) in
-    rw e (k .0, record { number = begun-number g ram c l (f .number); left = k .1 })
-
--- n of the next scanlines can be stepped together, the first having begun as d says
-pub record Together (d : Scan) (lines n : ℕ) : Type 0 where
-  pub some : 1 ≤ n
-  pub most : n ≤ lines
-  pub within : n ≤ d .left
-  pub pending : 1 < n → d .pending ≡ false
-
-pub together : (d : Scan) (lines : ℕ) → 1 ≤ lines → 1 ≤ d .left → Together d lines (pick (d .pending) 1 (min (d .left) lines))
-together d lines h l = go (d .pending) refl
-  where
-    go : (t : Bool) → d .pending ≡ t → Together d lines (pick t 1 (min (d .left) lines))
-    go true e = record { some = omega arith; most = h; within = l; pending = λ k. absurd (lt-irrefl 1 k) }
-    go false e = record { some = omega arith; most = omega arith; within = omega arith; pending = λ _. e }
-
--- and they end at the closed form
-pub reached : (g : Registers) (ram : List ℕ) (c d : Scan) (lines n : ℕ) → d ≡ begun g ram c → Sixteen (d .at) → Formed d → Together d lines n → loadPastEnd g c ≡ false → Reached g ram c n (skipped d n)
-unfolding skipped
-reached g ram c d lines zero e h f t p = absurd (not-suc-le-zero (t .some))
-reached g ram c d lines (suc n) e h f t p =
-    let h′ : Sixteen (begun g ram c .at) = rw e at h in
-    let q : 0 < n → begun g ram c .pending ≡ false = λ k. rw e at (t .pending (omega arith)) in
-    let l : n < begun g ram c .left = rw e at (t .within) in
-    record {
-      scan = sym (lines-inside g ram c h′ n q l ∙ ap (λ (x : Scan). skipped x (suc n)) (sym e));
-      clear = past-inside g ram c h′ n q l ∙ p;
-      formed = record { number = f .number; left = omega (arith, f .left) };
-    }
-
--- a walk of no scanlines, and one of some more
-pub reached-none : (g : Registers) (ram : List ℕ) (c : Scan) → Formed c → Reached g ram c 0 c
-reached-none g ram c f = record { scan = refl; clear = refl; formed = f }
-
-pub reached-more : (g : Registers) (ram : List ℕ) (c d e : Scan) (m n : ℕ) → Reached g ram c m d → Reached g ram d n e → Reached g ram c (m + n) e
-reached-more g ram c d e m n r s = record {
-  scan = rw (scan-after-add g ram c m n, ← r .scan) (s .scan);
-  clear = rw (past-end-add g ram c m n, ← r .scan, r .clear) (s .clear);
-  formed = s .formed;
-}
-
--- a load past the end of RAM at a scanline on the way
-pub past-at : (g : Registers) (ram : List ℕ) (c d : Scan) (m n : ℕ) → Reached g ram c m d → m < n → loadPastEnd g d ≡ true → pastEnd g ram n c ≡ true
-past-at g ram c d m n r l h =
-    let e : m + (1 + (n - suc m)) ≡ n = omega arith in
-    rw (← e, past-end-add g ram c m (1 + (n - suc m)), r .clear, ← r .scan, past-end-add g ram d 1 (n - suc m), h)

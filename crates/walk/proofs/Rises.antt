@@ -1,18 +1,18 @@
 -- Laws on how far the pointers go up, over the steps of the mode.
 use mathlib.Core.Path.{_≡_, refl, sym, ap, _∙_}
 use mathlib.Core.Bool.{Bool, true, false, _&&_}
-use Prim.Native.Nat.{ℕ, zero, suc, _+_, _-_, _*_, _%_, _≤_, _<_, min, max}
+use Prim.Native.Nat.{ℕ, zero, suc, _+_, _-_, _*_, _%_, _<_, min}
 use native.Mathlib.Nat.{add-zero, add-assoc, mul-zero, mul-one, mul-add, mod-add-mod, mod-eq-of-lt}
 use native.Mathlib.Omega.{arith}
 use lib.Dec.{leb, ltb}
 use borrow.Author.Tests.{ltb-true, ltb-false, leb-true, leb-false}
 use Rattle.lists.specs.Choice.{number}
 use Rattle.nick.specs.Numbers.{up}
-use Rattle.nick.specs.Slots.{Mode, VSYNC, PIXEL, ATTR, CH, UNUSED, LPIXEL, leftMargin, rightMargin, modeOf, isActive, slotPointers, linePointers, activeSlots}
+use Rattle.nick.specs.Slots.{Mode, VSYNC, PIXEL, ATTR, CH, UNUSED, LPIXEL, leftMargin, rightMargin, modeOf, slotPointers, linePointers, activeSlots}
 use Rattle.nick.specs.Scanline.{activeAt, pastSlot, pointersAfter}
 use Rattle.nick.specs.declared.Pointers.{Pointers}
 use Rattle.nick.specs.declared.Block.{Block}
-use Rattle.walk.specs.Steps.{stepsOf, advanced, activeBefore, rise1, rise2, lineRise2}
+use Rattle.walk.specs.Steps.{stepsOf, advanced, activeBefore, rise1, rise2}
 
 -- pointers of 16 bits
 pub record Sixteen (p : Pointers) : Type 0 where
@@ -43,22 +43,22 @@ advanced-sixteen m n p = record { ld1 = omega arith; ld2 = omega arith }
 -- what an active slot does to the pointers, in every mode
 pub slot-advances : (m : Mode) (p : Pointers) → Sixteen p → slotPointers m p ≡ advanced (stepsOf m .ld1) (stepsOf m .ld2) p
 unfolding advanced
-slot-advances VSYNC p h = rw (up-none (p .ld1) (h .ld1), up-none (p .ld2) (h .ld2))
+slot-advances VSYNC p h = sym (advanced-none p h)
 slot-advances PIXEL p h = rw (up-none (p .ld2) (h .ld2))
 slot-advances ATTR p h = refl
 slot-advances (CH width) p h = rw (up-none (p .ld2) (h .ld2))
-slot-advances UNUSED p h = rw (up-none (p .ld1) (h .ld1), up-none (p .ld2) (h .ld2))
+slot-advances UNUSED p h = sym (advanced-none p h)
 slot-advances LPIXEL p h = rw (up-none (p .ld2) (h .ld2))
 
 -- what a scanline's end does to the pointers, in every mode
 pub line-advances : (m : Mode) (p : Pointers) → Sixteen p → linePointers m p ≡ advanced 0 (stepsOf m .line) p
 unfolding advanced
-line-advances VSYNC p h = rw (up-none (p .ld1) (h .ld1), up-none (p .ld2) (h .ld2))
-line-advances PIXEL p h = rw (up-none (p .ld1) (h .ld1), up-none (p .ld2) (h .ld2))
-line-advances ATTR p h = rw (up-none (p .ld1) (h .ld1), up-none (p .ld2) (h .ld2))
+line-advances VSYNC p h = sym (advanced-none p h)
+line-advances PIXEL p h = sym (advanced-none p h)
+line-advances ATTR p h = sym (advanced-none p h)
 line-advances (CH width) p h = rw (up-none (p .ld1) (h .ld1))
-line-advances UNUSED p h = rw (up-none (p .ld1) (h .ld1), up-none (p .ld2) (h .ld2))
-line-advances LPIXEL p h = rw (up-none (p .ld1) (h .ld1), up-none (p .ld2) (h .ld2))
+line-advances UNUSED p h = sym (advanced-none p h)
+line-advances LPIXEL p h = sym (advanced-none p h)
 
 -- a slot, active or not
 pub past-slot : (t : Bool) (b : Block) (p : Pointers) → Sixteen p → pastSlot t b p ≡ advanced (stepsOf (modeOf b) .ld1 * number t) (stepsOf (modeOf b) .ld2 * number t) p

@@ -1,6 +1,7 @@
 -- How far LD1 and LD2 go up in a slot, in a scanline, and in several scanlines of a mode line. Nothing here is a rule of the
 -- chip: crates/walk/proofs has the laws that tie it to the rules.
-use Prim.Native.Nat.{ℕ, _+_, _-_, _*_, min}
+use mathlib.Core.Path.{_≡_}
+use Prim.Native.Nat.{ℕ, _+_, _-_, _*_, _≤_, min}
 use Rattle.lists.specs.Choice.{pick}
 use Rattle.nick.specs.Numbers.{up}
 use Rattle.nick.specs.Blocks.{vres}
@@ -18,6 +19,13 @@ stepsOf ATTR = record { ld1 = 1; ld2 = 1; line = 0 }
 stepsOf (CH width) = record { ld1 = 1; ld2 = 0; line = 1 }
 stepsOf UNUSED = record { ld1 = 0; ld2 = 0; line = 0 }
 stepsOf LPIXEL = record { ld1 = 1; ld2 = 0; line = 0 }
+
+-- what the code knows of them
+pub record StepsOf (m : Mode) (r : Steps) : Type 0 where
+  pub same : r ≡ stepsOf m
+  pub ld1 : r .ld1 ≤ 2
+  pub ld2 : r .ld2 ≤ 1
+  pub line : r .line ≤ 1
 
 -- LD1 gone up by m and LD2 by n
 unfoldable pub advanced : ℕ → ℕ → Pointers → Pointers

@@ -1,7 +1,7 @@
 -- What the walk from block to block answers.
-use Prim.Native.Nat.{ℕ, suc, _≤_, _<_}
+use Prim.Native.Nat.{ℕ, _≤_, _<_}
 use mathlib.Core.Path.{_≡_}
-use mathlib.Core.Bool.{true, false}
+use mathlib.Core.Bool.{false}
 use mathlib.Core.List.{List}
 use Rattle.nick.specs.Scanline.{scanAfter}
 use Rattle.nick.specs.Refusals.{loadPastEnd, pastEnd}

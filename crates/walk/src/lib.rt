@@ -1,14 +1,14 @@
 // The walk from line parameter block to line parameter block, and the pointers at a slot, with no scanline or slot stepped
 // singly.
 ghost use mathlib.Core.Path.{_≡_};
-ghost use Prim.Native.Nat.{_+_, _-_, _*_, _^_, _<_, _≤_, min};
+ghost use Prim.Native.Nat.{_^_, _<_, _≤_, min};
 ghost use lib.ListN.{length};
 ghost use Rattle.lists.specs.Choice.{pick};
 ghost use Rattle.nick.specs.Blocks.{vres};
 ghost use Rattle.nick.specs.Slots.{leftMargin, rightMargin, modeNumbered, fontAddress};
-ghost use Rattle.nick.specs.Scanline.{pointersAfter};
+ghost use Rattle.nick.specs.Scanline.{activeAt, pointersAfter};
 ghost use Rattle.nick.specs.Refusals.{loadPastEnd};
-ghost use Rattle.walk.specs.Steps.{stepsOf, advanced, activeBefore, skipped};
+ghost use Rattle.walk.specs.Steps.{StepsOf, advanced, activeBefore, skipped};
 ghost use Rattle.walk.specs.Walks.{Formed, Turns, Walks};
 use nick::Block;
 use nick::Pointers;
@@ -24,10 +24,10 @@ pub struct Steps {
 
 // One turn of the walk: whether a block to be loaded runs past the end of RAM; else how many scanlines it went on, and the
 // scan after them.
-pub struct Turned {
-    pub past: bool,
-    pub lines: usize,
-    pub scan: Scan,
+struct Turned {
+    past: bool,
+    lines: usize,
+    scan: Scan,
 }
 
 // What the walk answers: whether a block to be loaded runs past the end of RAM, else the scan that it came to.
@@ -58,6 +58,14 @@ pub fn right_margin(block: Block) -> u16
     smaller(block.rm as u16 % 64, 54)
 }
 
+// Whether a dot slot is active.
+pub fn is_active(block: Block, slot: u16) -> bool
+    requires { ⌜ slot ≤ 46 ⌝ }
+    ensures { λ r. ⌜ r ≡ activeAt block slot ⌝ }
+{
+    left_margin(block) <= 8 + slot && 8 + slot < right_margin(block)
+}
+
 // How many of the first `slots` dot slots are active.
 pub fn active_before(block: Block, slots: u16) -> u16
     requires { ⌜ slots ≤ 46 ⌝ }
@@ -68,37 +76,24 @@ pub fn active_before(block: Block, slots: u16) -> u16
     if left < end { end - left } else { 0 }
 }
 
+// These steps.
+fn steps_by(ld1: u16, ld2: u16, line: u16) -> Steps
+    ensures { λ r. ⌜ r ≡ record { ld1 = ld1; ld2 = ld2; line = line } ⌝ }
+{
+    Steps { ld1, ld2, line }
+}
+
 // The steps of a video mode.
 pub fn steps_of(mode: u8) -> Steps
     requires { ⌜ mode < 8 ⌝ }
-    ensures { λ r. ⌜ (r ≡ stepsOf (modeNumbered mode)) × (r .ld1 ≤ 2) × (r .ld2 ≤ 1) × (r .line ≤ 1) ⌝ }
+    ensures { λ r. ⌜ StepsOf (modeNumbered mode) r ⌝ }
 {
     match mode {
-        1 => Steps {
-            ld1: 2,
-            ld2: 0,
-            line: 0,
-        },
-        2 => Steps {
-            ld1: 1,
-            ld2: 1,
-            line: 0,
-        },
-        3..=5 => Steps {
-            ld1: 1,
-            ld2: 0,
-            line: 1,
-        },
-        7 => Steps {
-            ld1: 1,
-            ld2: 0,
-            line: 0,
-        },
-        _ => Steps {
-            ld1: 0,
-            ld2: 0,
-            line: 0,
-        },
+        1 => steps_by(2, 0, 0),
+        2 => steps_by(1, 1, 0),
+        3..=5 => steps_by(1, 0, 1),
+        7 => steps_by(1, 0, 0),
+        _ => steps_by(0, 0, 0),
     }
 }
 

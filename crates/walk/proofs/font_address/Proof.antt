@@ -1,6 +1,6 @@
 -- `walk::font_address`: both powers are the rule's, and the address has 16 bits, over the width.
-use mathlib.Core.Path.{_≡_, refl, sym, _∙_}
-use Prim.Native.Nat.{ℕ, _+_, _*_, _%_, _<_}
+use mathlib.Core.Path.{_≡_}
+use Prim.Native.Nat.{_+_, _*_, _%_, _<_}
 use native.Mathlib.Omega.{arith}
 use Rattle.nick.specs.Slots.{fontAddress}
 use Rattle.walk.proofs.Modes.{font-address-sixteen, font-address-of}

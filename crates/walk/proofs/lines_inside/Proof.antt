@@ -1,6 +1,4 @@
 -- `walk::lines_inside`: the second test finds the smaller of the two numbers.
-use mathlib.Core.Path.{_≡_, sym}
-use Prim.Native.Nat.{min}
 use native.Mathlib.Omega.{arith}
 use borrow.Author.Needs.{needs}
 use Rattle.walk.proofs.lines_inside.Statement.{statement}
@@ -16,13 +14,10 @@ cast-result : tie.Need-cast-result
 cast-result c = search needs
 
 returns-2 : tie.Need-returns-2
-returns-2 c =
-    let a = c .before .before .before .args in
-    rw (c .before .before .if1 .left) (omega arith)
+returns-2 c = rw (c .before .before .if1 .left) (omega arith)
 
 returns-3 : tie.Need-returns-3
-returns-3 c =
-    rw (c .before .before .if1 .left) (omega arith)
+returns-3 c = rw (c .before .before .if1 .left) (omega arith)
 
 pub lines-inside-spec : {M : Type 1} → statement M
 lines-inside-spec = tie.close (tie.spec returns cast-if2 cast-result returns-2 returns-3)

@@ -1,7 +1,6 @@
 -- `walk::lines_of_ld1` tests VRES.
 use Prim.Native.Nat.{_/_, _%_}
 use borrow.Author.Tests.{eq-eqb, ne-eqb}
-use native.Mathlib.Omega.{arith}
 use borrow.Author.Needs.{needs}
 use Rattle.walk.proofs.lines_of_ld1.Statement.{statement}
 use Rattle.walk.proofs.lines_of_ld1.Tie as tie

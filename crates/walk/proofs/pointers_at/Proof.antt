@@ -1,5 +1,4 @@
 -- `walk::pointers_at` advances the pointers by the mode's steps, once for each active slot before the slot asked for.
-use mathlib.Core.Path.{_≡_, sym, _∙_}
 use native.Mathlib.Nat.{mul-le-mul}
 use native.Mathlib.Omega.{arith}
 use Rattle.walk.proofs.Rises.{pointers-after}
@@ -14,10 +13,10 @@ active-before-requires : tie.Need-active-before-requires
 active-before-requires c κs = search needs
 
 mul-advance : tie.Need-mul-advance
-mul-advance c = omega (arith, mul-le-mul (c .before .before .steps-of .ensures .1) (c .before .active-before .ensures .1))
+mul-advance c = omega (arith, mul-le-mul (c .before .before .steps-of .ensures .ld1) (c .before .active-before .ensures .1))
 
 mul-advance-2 : tie.Need-mul-advance-2
-mul-advance-2 c = omega (arith, mul-le-mul (c .before .before .before .steps-of .ensures .2) (c .before .before .active-before .ensures .1))
+mul-advance-2 c = omega (arith, mul-le-mul (c .before .before .before .steps-of .ensures .ld2) (c .before .before .active-before .ensures .1))
 
 advance-requires : tie.Need-advance-requires
 advance-requires c κs = search needs
@@ -25,7 +24,7 @@ advance-requires c κs = search needs
 returns : tie.Need-returns
 returns c =
     let a = c .before .before .before .before .before .before .args in
-    rw (pointers-after (a .block) (a .slot) (a .at) (record { ld1 = omega arith; ld2 = omega arith }), ← c .before .before .before .before .steps-of .ensures .0, ← c .before .before .before .active-before .ensures .0) (c .advance .ensures)
+    rw (pointers-after (a .block) (a .slot) (a .at) (record { ld1 = omega arith; ld2 = omega arith }), ← c .before .before .before .before .steps-of .ensures .same, ← c .before .before .before .active-before .ensures .0) (c .advance .ensures)
 
 pub pointers-at-spec : {M : Type 1} → statement M
 pointers-at-spec =

@@ -1,5 +1,4 @@
 -- `walk::skip` advances the pointers by the mode's steps, once for each active slot and scanline.
-use mathlib.Core.Path.{_≡_, sym, _∙_}
 use native.Mathlib.Nat.{add-le-add, mul-le-mul}
 use native.Mathlib.Omega.{arith}
 use Rattle.walk.specs.Steps.{skipped}
@@ -17,19 +16,19 @@ lines-of-ld1-requires : tie.Need-lines-of-ld1-requires
 lines-of-ld1-requires c κs = search needs
 
 mul-ld1 : tie.Need-mul-ld1
-mul-ld1 c = omega (arith, mul-le-mul (c .before .before .before .steps-of .ensures .1) (c .before .before .active-before .ensures .1))
+mul-ld1 c = omega (arith, mul-le-mul (c .before .before .before .steps-of .ensures .ld1) (c .before .before .active-before .ensures .1))
 
 mul-ld1-2 : tie.Need-mul-ld1-2
-mul-ld1-2 c = omega (arith, mul-le-mul (c .before .lines-of-ld1 .ensures .1) (mul-le-mul (c .before .before .before .steps-of .ensures .1) (c .before .before .active-before .ensures .1)))
+mul-ld1-2 c = omega (arith, mul-le-mul (c .before .lines-of-ld1 .ensures .1) (mul-le-mul (c .before .before .before .steps-of .ensures .ld1) (c .before .before .active-before .ensures .1)))
 
 mul-ld2 : tie.Need-mul-ld2
-mul-ld2 c = omega (arith, mul-le-mul (c .before .before .before .before .steps-of .ensures .2) (c .before .before .before .active-before .ensures .1))
+mul-ld2 c = omega (arith, mul-le-mul (c .before .before .before .before .steps-of .ensures .ld2) (c .before .before .before .active-before .ensures .1))
 
 add-ld2 : tie.Need-add-ld2
-add-ld2 c = omega (arith, mul-le-mul (c .before .before .before .before .before .steps-of .ensures .2) (c .before .before .before .before .active-before .ensures .1))
+add-ld2 c = omega (arith, mul-le-mul (c .before .before .before .before .before .steps-of .ensures .ld2) (c .before .before .before .before .active-before .ensures .1))
 
 mul-ld2-2 : tie.Need-mul-ld2-2
-mul-ld2-2 c = omega (arith, mul-le-mul (c .before .before .before .before .before .before .before .before .pre .0) (add-le-add (mul-le-mul (c .before .before .before .before .before .steps-of .ensures .2) (c .before .before .before .before .active-before .ensures .1)) (c .before .before .before .before .before .steps-of .ensures .3)))
+mul-ld2-2 c = omega (arith, mul-le-mul (c .before .before .before .before .before .before .before .before .pre .0) (add-le-add (mul-le-mul (c .before .before .before .before .before .steps-of .ensures .ld2) (c .before .before .before .before .active-before .ensures .1)) (c .before .before .before .before .before .steps-of .ensures .line)))
 
 advance-requires : tie.Need-advance-requires
 advance-requires c κs = search needs
@@ -39,7 +38,7 @@ sub-t12 c = search needs
 
 returns : tie.Need-returns
 unfolding skipped
-returns c = rw (c .before .advance .ensures, c .before .before .before .before .before .before .lines-of-ld1 .ensures .0, c .before .before .before .before .before .before .before .before .steps-of .ensures .0, c .before .before .before .before .before .before .before .active-before .ensures .0)
+returns c = rw (c .before .advance .ensures, c .before .before .before .before .before .before .lines-of-ld1 .ensures .0, c .before .before .before .before .before .before .before .before .steps-of .ensures .same, c .before .before .before .before .before .before .before .active-before .ensures .0)
 
 pub skip-spec : {M : Type 1} → statement M
 skip-spec =

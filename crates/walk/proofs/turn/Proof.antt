@@ -1,11 +1,11 @@
 -- `walk::turn`: the scanlines up to the next load end at the closed form, and only the first of them can load.
-use mathlib.Core.Path.{_≡_, refl, sym, _∙_}
+use mathlib.Core.Path.{sym, _∙_}
 use mathlib.Core.Bool.{true≢false}
 use Prim.Native.Nat.{_≤_}
 use native.Mathlib.Omega.{arith}
 use Rattle.walk.specs.Walks.{Formed}
 use Rattle.walk.proofs.Rises.{Sixteen}
-use Rattle.walk.proofs.Lines.{Together, begun-formed, together, reached}
+use Rattle.walk.proofs.Walking.{Together, begun-formed, together, reached}
 use borrow.Author.Needs.{needs}
 use Rattle.walk.proofs.turn.Statement.{statement}
 use Rattle.walk.proofs.turn.Tie as tie

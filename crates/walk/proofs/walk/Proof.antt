@@ -1,10 +1,10 @@
 -- `walk::walk`: after each turn the scan is the one after the scanlines done, and none of them loaded past the end of RAM.
-use mathlib.Core.Path.{_≡_, refl, sym, ap, _∙_}
-use mathlib.Core.Bool.{true, false, true≢false}
-use Prim.Native.Nat.{_+_, _-_, _≤_}
+use mathlib.Core.Path.{_≡_, sym, _∙_}
+use mathlib.Core.Bool.{true≢false}
+use Prim.Native.Nat.{_-_, _≤_}
 use native.Mathlib.Omega.{arith}
-use Rattle.walk.specs.Walks.{Formed, Reached}
-use Rattle.walk.proofs.Lines.{reached-none, reached-more, past-at}
+use Rattle.walk.specs.Walks.{Reached}
+use Rattle.walk.proofs.Walking.{reached-none, reached-more, past-at}
 use borrow.Author.Needs.{needs}
 use Rattle.walk.proofs.walk.Statement.{statement}
 use Rattle.walk.proofs.walk.Tie as tie

@@ -1,0 +1,104 @@
+-- Laws on the walk: a scan stays well-formed, which scanlines are stepped together, and walks of some scanlines put together.
+use mathlib.Core.Path.{_≡_, refl, sym, ap, _∙_}
+use mathlib.Core.Bool.{Bool, true, false, not, _||_, true≢false}
+use mathlib.Core.List.{List}
+use Prim.Native.Nat.{ℕ, zero, suc, _+_, _-_, _%_, _≤_, _<_, min}
+use native.Mathlib.Nat.{not-suc-le-zero, lt-irrefl}
+use native.Mathlib.Omega.{arith}
+use lib.Dec.{eqb}
+use borrow.Author.Tests.{eqb-false}
+use Rattle.lists.specs.Choice.{pick}
+use Rattle.nick.specs.Numbers.{isSet}
+use Rattle.nick.specs.Registers.{baseNumber}
+use Rattle.nick.specs.Blocks.{reload, loads, loadedNumber, loaded, continued, begun}
+use Rattle.nick.specs.Refusals.{loadPastEnd, pastEnd}
+use Rattle.nick.specs.declared.Registers.{Registers}
+use Rattle.nick.specs.declared.Scan.{Scan}
+use Rattle.walk.specs.Steps.{skipped}
+use Rattle.walk.specs.Walks.{Formed, Reached}
+use Rattle.walk.proofs.Rises.{Sixteen}
+use Rattle.walk.proofs.Lines.{begunBy, lines-inside, past-inside, scan-after-add, past-end-add}
+
+-- the second of two tests that both fail
+or-right : (a b : Bool) → a || b ≡ false → b ≡ false
+or-right true b h = absurd (true≢false h)
+or-right false b h = h
+
+begun-left : (g : Registers) (ram : List ℕ) (c : Scan) → c .left ≤ 256 → begun g ram c .block .sc < 256 → (1 ≤ begun g ram c .left) × (begun g ram c .left ≤ 256)
+unfolding begun continued loaded
+begun-left g ram c h = go (loads c) refl
+  where
+    go : (t : Bool) → loads c ≡ t → begunBy t g ram c .block .sc < 256 → (1 ≤ begunBy t g ram c .left) × (begunBy t g ram c .left ≤ 256)
+    go true e s = (omega arith, omega arith)
+    go false e s =
+        let some : c .left ≡ 0 → ⊥ = eqb-false (c .left) 0 (or-right (c .pending) (eqb (c .left) 0) e) in
+        (omega arith, h)
+
+loaded-number-below : (g : Registers) (c : Scan) → g .lpl < 256 → c .number < 4096 → loadedNumber g c < 4096
+unfolding loadedNumber
+loaded-number-below g c l h = go (c .pending) (reload (c .block)) (not (isSet 6 (g .lph)))
+  where
+    go : (p q r : Bool) → pick p (baseNumber g) (pick q (baseNumber g) (pick r (c .number) ((c .number + 1) % 4096))) < 4096
+    go true q r = omega arith
+    go false true r = omega arith
+    go false false true = h
+    go false false false = omega arith
+
+begun-number : (g : Registers) (ram : List ℕ) (c : Scan) → g .lpl < 256 → c .number < 4096 → begun g ram c .number < 4096
+unfolding begun continued loaded
+begun-number g ram c l h = go (loads c)
+  where
+    go : (t : Bool) → begunBy t g ram c .number < 4096
+    go true = loaded-number-below g c l h
+    go false = h
+
+-- a well-formed scan begins well-formed, with a scanline left
+pub begun-formed : (g : Registers) (ram : List ℕ) (c d : Scan) → d ≡ begun g ram c → Formed c → d .block .sc < 256 → g .lpl < 256 → (1 ≤ d .left) × Formed d
+begun-formed g ram c d e f s l =
+    let k = begun-left g ram c (f .left) (rw e at s) in
+    rw e (k .0, record { number = begun-number g ram c l (f .number); left = k .1 })
+
+-- n of the next scanlines can be stepped together, the first having begun as d says
+pub record Together (d : Scan) (lines n : ℕ) : Type 0 where
+  pub some : 1 ≤ n
+  pub most : n ≤ lines
+  pub within : n ≤ d .left
+  pub pending : 1 < n → d .pending ≡ false
+
+pub together : (d : Scan) (lines : ℕ) → 1 ≤ lines → 1 ≤ d .left → Together d lines (pick (d .pending) 1 (min (d .left) lines))
+together d lines h l = go (d .pending) refl
+  where
+    go : (t : Bool) → d .pending ≡ t → Together d lines (pick t 1 (min (d .left) lines))
+    go true e = record { some = omega arith; most = h; within = l; pending = λ k. absurd (lt-irrefl 1 k) }
+    go false e = record { some = omega arith; most = omega arith; within = omega arith; pending = λ _. e }
+
+-- and they end at the closed form
+pub reached : (g : Registers) (ram : List ℕ) (c d : Scan) (lines n : ℕ) → d ≡ begun g ram c → Sixteen (d .at) → Formed d → Together d lines n → loadPastEnd g c ≡ false → Reached g ram c n (skipped d n)
+unfolding skipped
+reached g ram c d lines zero e h f t p = absurd (not-suc-le-zero (t .some))
+reached g ram c d lines (suc n) e h f t p =
+    let h′ : Sixteen (begun g ram c .at) = rw e at h in
+    let q : 0 < n → begun g ram c .pending ≡ false = λ k. rw e at (t .pending (omega arith)) in
+    let l : n < begun g ram c .left = rw e at (t .within) in
+    record {
+      scan = sym (lines-inside g ram c h′ n q l ∙ ap (λ (x : Scan). skipped x (suc n)) (sym e));
+      clear = past-inside g ram c h′ n q l ∙ p;
+      formed = record { number = f .number; left = omega (arith, f .left) };
+    }
+
+-- a walk of no scanlines, and one of some more
+pub reached-none : (g : Registers) (ram : List ℕ) (c : Scan) → Formed c → Reached g ram c 0 c
+reached-none g ram c f = record { scan = refl; clear = refl; formed = f }
+
+pub reached-more : (g : Registers) (ram : List ℕ) (c d e : Scan) (m n : ℕ) → Reached g ram c m d → Reached g ram d n e → Reached g ram c (m + n) e
+reached-more g ram c d e m n r s = record {
+  scan = rw (scan-after-add g ram c m n, ← r .scan) (s .scan);
+  clear = rw (past-end-add g ram c m n, ← r .scan, r .clear) (s .clear);
+  formed = s .formed;
+}
+
+-- a load past the end of RAM at a scanline on the way
+pub past-at : (g : Registers) (ram : List ℕ) (c d : Scan) (m n : ℕ) → Reached g ram c m d → m < n → loadPastEnd g d ≡ true → pastEnd g ram n c ≡ true
+past-at g ram c d m n r l h =
+    let e : m + (1 + (n - suc m)) ≡ n = omega arith in
+    rw (← e, past-end-add g ram c m (1 + (n - suc m)), r .clear, ← r .scan, past-end-add g ram d 1 (n - suc m), h)
