@@ -7,7 +7,6 @@ ghost use Rattle.lists.specs.Choice.{pick};
 ghost use Rattle.nick.specs.Numbers.{byteAt};
 ghost use Rattle.nick.specs.Slots.{PIXEL, ATTR, CH, LPIXEL, modeOf};
 ghost use Rattle.nick.specs.Sync.{syncs};
-ghost use Rattle.nick.specs.Scanline.{activeAt};
 ghost use Rattle.slots.specs.Slots.{eighthOf, cellDot, cellDots, ActiveSlot, AnySlot};
 use colour::Cell;
 use nick::Block;
@@ -198,15 +197,6 @@ fn plain_slot(at: Pointers, colour: u8, out: &mut [u8]) -> Slot
     Slot { at, fetched: 0 }
 }
 
-// Whether dot slot `n` lies between the margins.
-fn is_active(block: Block, n: usize) -> bool
-    requires { ⌜ n < 46 ⌝ }
-    ensures { λ r. ⌜ r ≡ activeAt block n ⌝ }
-{
-    let slot = (8 + n) as u16;
-    walk::left_margin(block) <= slot && slot < walk::right_margin(block)
-}
-
 // Paints an active slot: the video mode's number decides what it fetches.
 fn active_slot(
     registers: Registers,
@@ -256,7 +246,8 @@ pub fn paint_slot(
     requires { ⌜ (length (now ram) ≡ 65536) × (n < 46) × (length (now out) ≡ 16) × (line ≤ 752928) ⌝ }
     ensures { λ r. ⌜ AnySlot registers (now (ram .entry)) block n at (now (external .entry)) line (now (out .exit)) r ⌝ }
 {
-    if is_active(block, n) {
+    let slot = n as u16;
+    if walk::is_active(block, slot) {
         active_slot(registers, ram, block, at, out, external, line + 16 * n)
     } else {
         plain_slot(at, outside(registers, block), out)

@@ -1,11 +1,12 @@
 -- `slots::paint_slot` goes by the margins.
-use mathlib.Core.Path.{sym, ap, _∙_}
-use Prim.Native.Nat.{ℕ}
-use lib.ListN.{replicate}
+use mathlib.Core.Path.{sym, _∙_}
 use Rattle.slots.proofs.Active.{any-active, any-outside}
 use borrow.Author.Needs.{needs}
 use Rattle.slots.proofs.paint_slot.Statement.{statement}
 use Rattle.slots.proofs.paint_slot.Tie as tie
+
+cast-slot : tie.Need-cast-slot
+cast-slot c = search needs
 
 is-active-requires : tie.Need-is-active-requires
 is-active-requires c κs = search needs
@@ -48,6 +49,7 @@ pub paint-slot-spec : {M : Type 1} → statement M
 paint-slot-spec =
     tie.close
     (tie.spec
+    cast-slot
     is-active-requires
     mul-active-slot
     add-active-slot

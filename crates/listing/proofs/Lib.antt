@@ -1,0 +1,7 @@
+pub mod Writing
+pub mod Decimal
+pub mod Pieces
+pub mod Lines
+pub mod Table
+pub mod Length
+pub mod Answers

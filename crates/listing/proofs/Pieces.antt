@@ -1,0 +1,130 @@
+-- Laws on the pieces of a block's line: names, bits, colours and tabbed numbers, and the line's length.
+use mathlib.Core.Path.{_≡_, refl, sym}
+use mathlib.Core.List.{List, [], _∷_, _++_, append-nil, append-assoc}
+use Prim.Native.Nat.{ℕ, zero, suc, _+_, _-_, _*_, _/_, _%_, _<_, _≤_}
+use native.Mathlib.Nat.{not-suc-le-zero, le-of-suc-le-suc, div-one}
+use native.Mathlib.Omega.{arith}
+use lib.Dec.{eqb}
+use lib.ListN.{length, getD, take, drop, length-append}
+use lib.Seq.{ext-getD}
+use Rattle.lists.specs.Choice.{number}
+use Rattle.lists.specs.Tab.{tab}
+use Rattle.lists.proofs.Laws.{length-tab, getD-tab}
+use Rattle.nick.specs.Registers.{baseNumber}
+use Rattle.nick.specs.Slots.{modeNumber}
+use Rattle.nick.specs.Listing.{TAB, LF, headerWord, endWord, decimal, modeName, colourCount, tabbed, numbersAfterName, blockLine, headerLine, endLine}
+use Rattle.nick.specs.declared.Registers.{Registers}
+use Rattle.nick.specs.declared.Block.{Block}
+use Rattle.listing.specs.Text.{Room, Wrote}
+use Rattle.listing.specs.Lines.{wordLine}
+
+-- the names in six bytes each, and how many of the six are the name
+abbrev pub names : List ℕ
+names =
+    86 ∷ 83 ∷ 89 ∷ 78 ∷ 67 ∷ 32
+    ∷ 80 ∷ 73 ∷ 88 ∷ 69 ∷ 76 ∷ 32
+    ∷ 65 ∷ 84 ∷ 84 ∷ 82 ∷ 32 ∷ 32
+    ∷ 67 ∷ 72 ∷ 50 ∷ 53 ∷ 54 ∷ 32
+    ∷ 67 ∷ 72 ∷ 49 ∷ 50 ∷ 56 ∷ 32
+    ∷ 67 ∷ 72 ∷ 54 ∷ 52 ∷ 32 ∷ 32
+    ∷ 85 ∷ 78 ∷ 85 ∷ 83 ∷ 69 ∷ 68
+    ∷ 76 ∷ 80 ∷ 73 ∷ 88 ∷ 69 ∷ 76
+    ∷ []
+
+abbrev pub nameLength : ℕ → ℕ
+nameLength mode = getD (5 ∷ 5 ∷ 4 ∷ 5 ∷ 5 ∷ 4 ∷ 6 ∷ 6 ∷ []) mode 0
+
+-- a fact of each mode number
+pub each-mode : (P : ℕ → Type 0) → P 0 → P 1 → P 2 → P 3 → P 4 → P 5 → P 6 → P 7 → (mode : ℕ) → mode < 8 → P mode
+each-mode P p0 p1 p2 p3 p4 p5 p6 p7 zero h = p0
+each-mode P p0 p1 p2 p3 p4 p5 p6 p7 (suc zero) h = p1
+each-mode P p0 p1 p2 p3 p4 p5 p6 p7 (suc (suc zero)) h = p2
+each-mode P p0 p1 p2 p3 p4 p5 p6 p7 (suc (suc (suc zero))) h = p3
+each-mode P p0 p1 p2 p3 p4 p5 p6 p7 (suc (suc (suc (suc zero)))) h = p4
+each-mode P p0 p1 p2 p3 p4 p5 p6 p7 (suc (suc (suc (suc (suc zero))))) h = p5
+each-mode P p0 p1 p2 p3 p4 p5 p6 p7 (suc (suc (suc (suc (suc (suc zero)))))) h = p6
+each-mode P p0 p1 p2 p3 p4 p5 p6 p7 (suc (suc (suc (suc (suc (suc (suc zero))))))) h = p7
+each-mode P p0 p1 p2 p3 p4 p5 p6 p7 (suc (suc (suc (suc (suc (suc (suc (suc n)))))))) h = absurd (omega arith)
+
+pub name-length : (mode : ℕ) → mode < 8 → nameLength mode ≤ 6
+name-length = each-mode (λ m. nameLength m ≤ 6) (omega arith) (omega arith) (omega arith) (omega arith) (omega arith) (omega arith) (omega arith) (omega arith)
+
+name-part : (mode : ℕ) → mode < 8 → take (6 * mode + nameLength mode - 6 * mode) (drop (6 * mode) names) ≡ modeName mode
+unfolding modeName
+name-part = each-mode (λ m. take (6 * m + nameLength m - 6 * m) (drop (6 * m) names) ≡ modeName m) refl refl refl refl refl refl refl refl
+
+-- the part of the table that is the mode's name has room where the name has, and is the name
+pub name-room : (at mode : ℕ) → mode < 8 → Room at (modeName mode) → Room at (take (6 * mode + nameLength mode - 6 * mode) (drop (6 * mode) names))
+name-room at mode h r = rw (name-part mode h) r
+
+pub name-wrote : {out left : List ℕ} {at end : ℕ} (mode : ℕ) → mode < 8 → Wrote out at (take (6 * mode + nameLength mode - 6 * mode) (drop (6 * mode) names)) end left → Wrote out at (modeName mode) end left
+name-wrote mode h w = rw (name-part mode h) at w
+
+-- a bit as a number
+bit-number : (n : ℕ) → n < 2 → n ≡ number (eqb n 1)
+bit-number zero h = refl
+bit-number (suc zero) h = refl
+bit-number (suc (suc n)) h = absurd (not-suc-le-zero (le-of-suc-le-suc (le-of-suc-le-suc h)))
+
+pub number-bit : (x : ℕ) → x % 2 ≡ number (eqb (x % 2) 1)
+number-bit x = bit-number (x % 2) (omega arith)
+
+-- a list of eight is its eight places
+tab-places : (xs : List ℕ) → tab (λ i. getD xs i 0) (length xs) ≡ xs
+tab-places xs =
+    let e = length-tab (λ i. getD xs i 0) (length xs) in
+    ext-getD 0 (tab (λ i. getD xs i 0) (length xs)) xs e (λ i h. getD-tab (λ j. getD xs j 0) (length xs) i 0 (rw e at h))
+
+pub eight-places : (xs : List ℕ) {c0 c1 c2 c3 c4 c5 c6 c7 : ℕ} → length xs ≡ 8
+    → c0 ≡ getD xs 0 0 → c1 ≡ getD xs 1 0 → c2 ≡ getD xs 2 0 → c3 ≡ getD xs 3 0
+    → c4 ≡ getD xs 4 0 → c5 ≡ getD xs 5 0 → c6 ≡ getD xs 6 0 → c7 ≡ getD xs 7 0
+    → c0 ∷ c1 ∷ c2 ∷ c3 ∷ c4 ∷ c5 ∷ c6 ∷ c7 ∷ [] ≡ xs
+eight-places xs e e0 e1 e2 e3 e4 e5 e6 e7 = rw (e0, e1, e2, e3, e4, e5, e6, e7) (rw e at (tab-places xs))
+
+-- the numbers after the name, as the code computes them
+pub numbers-are : (b : Block) (colours : List ℕ) → colours ≡ b .col
+    → getD (2 ∷ 4 ∷ 16 ∷ 256 ∷ []) (b .mb / 32 % 4) 0 ∷ b .mb / 16 % 2 ∷ b .mb / 128 % 2 ∷ b .mb % 2
+    ∷ b .lm ∷ b .rm ∷ b .start .ld1 ∷ b .start .ld2 ∷ colours
+    ≡ numbersAfterName b
+unfolding colourCount
+numbers-are b colours e = rw (e, div-one (b .mb), ← (number-bit (b .mb / 16)), ← (number-bit (b .mb / 128)), ← (number-bit (b .mb)))
+
+-- a number after a tab
+abbrev pub field : ℕ → List ℕ
+field n = TAB ∷ decimal n
+
+pub one-field : (n : ℕ) → tabbed (n ∷ []) ≡ field n
+one-field n = append-nil (field n)
+
+-- tabbed numbers after tabbed numbers
+pub tabbed-append : (xs ys : List ℕ) → tabbed (xs ++ ys) ≡ tabbed xs ++ tabbed ys
+tabbed-append [] ys = refl
+tabbed-append (n ∷ xs) ys = rw (tabbed-append xs ys) (sym (append-assoc (TAB ∷ decimal n) (tabbed xs) (tabbed ys)))
+
+-- a block's line, piece by piece
+pub line-text : (n : ℕ) (b : Block) (xs : List ℕ) → xs ≡ numbersAfterName b
+    → blockLine n b ≡ decimal (16 * n) ++ field (256 - b .sc) ++ (TAB ∷ modeName (modeNumber b)) ++ tabbed xs ++ (LF ∷ [])
+unfolding blockLine
+line-text n b xs e = rw e
+
+pub line-length : (n : ℕ) (b : Block) (xs : List ℕ) → xs ≡ numbersAfterName b
+    → length (blockLine n b) ≡ length (decimal (16 * n)) + length (field (256 - b .sc)) + suc (length (modeName (modeNumber b))) + length (tabbed xs) + 1
+line-length n b xs e = rw (line-text n b xs e) (simp length-append)
+
+-- the first line, and the last
+pub word-length : (word : List ℕ) (n : ℕ) → length (wordLine word n) ≡ length word + length (decimal n) + 1
+word-length word n = simp length-append
+
+abbrev pub header : List ℕ
+header = headerWord ++ (TAB ∷ [])
+
+abbrev pub endTab : List ℕ
+endTab = endWord ++ (TAB ∷ [])
+
+pub header-text : (g : Registers) (base : ℕ) → base ≡ baseNumber g → headerLine g ≡ wordLine header (16 * base)
+unfolding headerLine
+header-text g base e = rw e
+
+pub end-text : (count : ℕ) → endLine count ≡ wordLine endTab count
+unfolding endLine
+end-text count = refl

@@ -1,0 +1,27 @@
+-- `listing::put_word_line`: each of the three pieces has room since the whole line has.
+use native.Mathlib.Omega.{arith}
+use Rattle.listing.proofs.Writing.{wrote-then}
+use Rattle.listing.proofs.Pieces.{word-length}
+use borrow.Author.Needs.{needs}
+use Rattle.listing.proofs.put_word_line.Statement.{statement}
+use Rattle.listing.proofs.put_word_line.Tie as tie
+
+put-bytes-requires : tie.Need-put-bytes-requires
+put-bytes-requires c κs = omega (arith, word-length (c .before .before .before .args .word .now) (c .before .before .before .args .n))
+
+put-decimal-requires : tie.Need-put-decimal-requires
+put-decimal-requires c κs = omega (arith, word-length (c .before .before .before .before .before .before .before .args .word .now) (c .before .before .before .before .before .before .before .args .n))
+
+put-byte-requires : tie.Need-put-byte-requires
+put-byte-requires c κs = omega (arith, word-length (c .before .before .before .before .before .before .before .before .before .before .before .args .word .now) (c .before .before .before .before .before .before .before .before .before .before .before .args .n))
+
+same-length : tie.Need-same-length
+same-length c = search needs
+
+returns : tie.Need-returns
+returns c = wrote-then (wrote-then (c .before .before .before .before .before .before .before .before .before .before .put-bytes .ensures) (c .before .before .before .before .before .before .put-decimal .ensures)) (c .before .before .put-byte .ensures)
+
+pub put-word-line-spec : {M : Type 1} → statement M
+put-word-line-spec =
+    tie.close
+    (tie.spec put-bytes-requires put-decimal-requires put-byte-requires same-length returns)
