@@ -42,6 +42,9 @@ module _ (g : Registers) (ram : List ℕ) (c : Scan) (ext : ℕ → ℕ) where
   slots-rows zero = refl
   slots-rows (suc n) = rw (slots-rows n)
 
+  pub length-slots : (n : ℕ) → length (slotsDots g ram (c .block) n (c .at) ext) ≡ 16 * n
+  length-slots n = rw (slots-rows n) (length-rows slotOf 16 (length-slot 16 refl) n)
+
   begun-rows : (n : ℕ) → n ≡ 46 → begunDots g ram c ext ≡ rows slotOf n
   unfolding begunDots
   begun-rows n e = ap (λ (m : ℕ). slotsDots g ram (c .block) m (c .at) ext) (sym e) ∙ slots-rows n

@@ -13,7 +13,7 @@ use Rattle.nick.specs.Blocks.{begun}
 use Rattle.nick.specs.Slots.{modeOf, modeNumber, dotAddresses}
 use Rattle.nick.specs.Colour.{coloursOf}
 use Rattle.nick.specs.External.{dotColour}
-use Rattle.nick.specs.Scanline.{activeAt, pointersAfter, dotAt, lineDots, scanAfter}
+use Rattle.nick.specs.Scanline.{activeAt, pointersAfter, dotAt, scanAfter}
 use Rattle.nick.specs.Refusals.{loadPastEnd, pastEnd, directRefusal}
 use Rattle.nick.specs.Direct.{colour, refused, directColour, directNames, direct}
 use Rattle.nick.specs.declared.Registers.{Registers}
@@ -21,7 +21,7 @@ use Rattle.nick.specs.declared.Pointers.{Pointers}
 use Rattle.nick.specs.declared.Block.{Block}
 use Rattle.nick.specs.declared.Scan.{Scan}
 use Rattle.nick.specs.declared.State.{State}
-use Rattle.walk.proofs.Dots.{begun-dot}
+use Rattle.claims.proofs.Slots.{line-dot}
 use Rattle.direct.specs.Answers.{unfetchedAnswer, activeAnswer, dotAnswer}
 use Rattle.direct.proofs.Slots.{inactive-dot}
 
@@ -38,11 +38,12 @@ direct-refused s ram y x e n r h = rw (r, ne-eqb n 0 (λ z. omega arith))
 
 -- one that is not refused
 direct-answered : (s : State) (ram : List ℕ) (y x e : ℕ) → directRefusal s ram y x ≡ 0 → x < 736 → dotAnswer (s .registers) ram (begun (s .registers) ram (scanAfter (s .registers) ram y (s .scan))) x e ≡ direct s ram y x e
-unfolding direct directColour directNames lineDots dotAnswer
+unfolding direct directColour directNames dotAnswer
 direct-answered s ram y x e r h =
     let g = s .registers in
-    let c = begun g ram (scanAfter g ram y (s .scan)) in
-    rw (r, begun-dot g ram c (λ _. e) x h) (sym (slot-answer (activeAt (c .block) (x / 16)) g ram (c .block) (pointersAfter (c .block) (x / 16) (c .at)) (x % 16) e))
+    let before = scanAfter g ram y (s .scan) in
+    let c = begun g ram before in
+    rw (r, line-dot g ram before (λ _. e) x h) (sym (slot-answer (activeAt (c .block) (x / 16)) g ram (c .block) (pointersAfter (c .block) (x / 16) (c .at)) (x % 16) e))
 
 -- the tests in rising order: each refusal stands behind those before it
 module _ (s : State) (ram : List ℕ) (y x e : ℕ) where

@@ -1,4 +1,4 @@
--- Laws on the dot slots of a scanline: how many dots they make, and one slot more.
+-- Laws on the dot slots of a scanline: one slot more, and all of them.
 use mathlib.Core.Path.{_≡_, refl, sym, ap, _∙_}
 use mathlib.Core.List.{List, [], _∷_, _++_}
 use Prim.Native.Nat.{ℕ, zero, suc, _+_, _*_}
@@ -6,35 +6,25 @@ use native.Mathlib.Nat.{add-zero}
 use native.Mathlib.Numerals.{add-one}
 use native.Mathlib.Omega.{arith}
 use lib.ListN.{length, take, drop, set, length-append}
-use Rattle.lists.proofs.Laws.{length-tab, lent, front-all}
-use Rattle.nick.specs.Scanline.{activeAt, pointersAfter, slotAddresses, slotsFetched, dotAt, slotDots, slotsDots, begunDots}
-use Rattle.nick.specs.External.{dotColour}
+use Rattle.lists.proofs.Laws.{lent, front-all}
+use Rattle.nick.specs.Scanline.{activeAt, pointersAfter, slotAddresses, slotsFetched, slotDots, slotsDots, begunDots}
+use Rattle.claims.proofs.Slots.{length-slots}
 use Rattle.nick.specs.declared.Registers.{Registers}
 use Rattle.nick.specs.declared.Pointers.{Pointers}
 use Rattle.nick.specs.declared.Block.{Block}
 use Rattle.nick.specs.declared.Scan.{Scan}
 
-module _ (g : Registers) (ram : List ℕ) (b : Block) (ext : ℕ → ℕ) where
-  pub length-slot : (n : ℕ) (p : Pointers) → length (slotDots g ram b n p ext) ≡ 16
-  unfolding slotDots
-  length-slot n p = length-tab (λ j. dotColour g b (dotAt (activeAt b n) ram b p j) (ext (16 * n + j))) 16
-
-  pub length-slots : (n : ℕ) (p : Pointers) → length (slotsDots g ram b n p ext) ≡ 16 * n
-  length-slots zero p = refl
-  length-slots (suc n) p =
-      length-append (slotsDots g ram b n p ext) (slotDots g ram b n (pointersAfter b n p) ext)
-      ∙ rw (length-slots n p, length-slot n (pointersAfter b n p)) (omega arith)
-
-  -- one slot more, painted into its part of the scanline
-  pub slot-more : (n : ℕ) (p q : Pointers) (d out : List ℕ)
-      → out ≡ slotsDots g ram b n p ext ++ drop (16 * n) d
-      → q ≡ pointersAfter b n p
-      → take (16 * n) out ++ (slotDots g ram b n q ext ++ drop 16 (drop (16 * n) out))
-      ≡ slotsDots g ram b (n + 1) p ext ++ drop (16 * (n + 1)) d
-  slot-more n p q d out e f =
-      let next : 16 * suc n ≡ 16 * n + 16 = omega arith in
-      rw (e, f, add-one n, next)
-      (lent (slotsDots g ram b n p ext) d (slotDots g ram b n (pointersAfter b n p) ext) (16 * n) 16 (length-slots n p))
+-- one slot more, painted into its part of the scanline
+pub slot-more : (g : Registers) (ram : List ℕ) (c : Scan) (ext : ℕ → ℕ) (n : ℕ) (q : Pointers) (d out : List ℕ)
+    → out ≡ slotsDots g ram (c .block) n (c .at) ext ++ drop (16 * n) d
+    → q ≡ pointersAfter (c .block) n (c .at)
+    → take (16 * n) out ++ (slotDots g ram (c .block) n q ext ++ drop 16 (drop (16 * n) out))
+    ≡ slotsDots g ram (c .block) (n + 1) (c .at) ext ++ drop (16 * (n + 1)) d
+slot-more g ram c ext n q d out e f =
+    let next : 16 * suc n ≡ 16 * n + 16 = omega arith in
+    let slots = slotsDots g ram (c .block) n (c .at) ext in
+    rw (e, f, add-one n, next)
+    (lent slots d (slotDots g ram (c .block) n (pointersAfter (c .block) n (c .at)) ext) (16 * n) 16 (length-slots g ram c ext n))
 
 -- the 46 slots are the whole scanline
 pub slots-all : (g : Registers) (ram : List ℕ) (c : Scan) (ext : ℕ → ℕ) (n : ℕ) (d out : List ℕ)

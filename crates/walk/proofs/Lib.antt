@@ -2,4 +2,3 @@ pub mod Rises
 pub mod Lines
 pub mod Walking
 pub mod Modes
-pub mod Dots

@@ -1,9 +1,9 @@
--- Laws on several scanlines: those of one mode line in one step, and a run of scanlines in two parts.
+-- Laws on several scanlines: those of one mode line in one step.
 use mathlib.Core.Path.{_≡_, refl, ap, _∙_}
 use mathlib.Core.Bool.{Bool, true, false, _||_}
 use mathlib.Core.List.{List}
-use Prim.Native.Nat.{ℕ, zero, suc, _+_, _-_, _*_, _<_}
-use native.Mathlib.Nat.{add-zero, add-suc, one-mul, suc-mul, zero-lt-suc}
+use Prim.Native.Nat.{ℕ, zero, suc, _-_, _*_, _<_}
+use native.Mathlib.Nat.{add-zero, one-mul, suc-mul, zero-lt-suc}
 use native.Mathlib.Omega.{arith}
 use borrow.Author.Tests.{ne-eqb}
 use Rattle.lists.specs.Choice.{pick}
@@ -30,10 +30,6 @@ pick-twice false a b = refl
 or-false : (t : Bool) → t || false ≡ t
 or-false true = refl
 or-false false = refl
-
-or-assoc : (a b c : Bool) → (a || b) || c ≡ a || (b || c)
-or-assoc true b c = refl
-or-assoc false b c = refl
 
 -- a scan that begins, by whether it loads
 abbrev pub begunBy : Bool → Registers → List ℕ → Scan → Scan
@@ -115,13 +111,3 @@ module _ (g : Registers) (ram : List ℕ) (c : Scan) (h : Sixteen (begun g ram c
       let p′ : 0 < n → d .pending ≡ false = λ _. p (zero-lt-suc n) in
       let l′ : n < d .left = omega arith in
       rw (past-inside n p′ l′, lines-inside n p′ l′, loads-none d (suc n) (p (zero-lt-suc n)) l) (or-false (loadPastEnd g c))
-
--- a run of scanlines in two parts
-pub scan-after-add : (g : Registers) (ram : List ℕ) (c : Scan) (m n : ℕ) → scanAfter g ram (m + n) c ≡ scanAfter g ram n (scanAfter g ram m c)
-scan-after-add g ram c m zero = rw add-zero
-scan-after-add g ram c m (suc n) = rw (add-suc m n) (ap (nextScan g ram) (scan-after-add g ram c m n))
-
-pub past-end-add : (g : Registers) (ram : List ℕ) (c : Scan) (m n : ℕ) → pastEnd g ram (m + n) c ≡ pastEnd g ram m c || pastEnd g ram n (scanAfter g ram m c)
-past-end-add g ram c m zero = rw (add-zero m, or-false (pastEnd g ram m c))
-past-end-add g ram c m (suc n) =
-    rw (add-suc m n, past-end-add g ram c m n, scan-after-add g ram c m n) (or-assoc (pastEnd g ram m c) (pastEnd g ram n (scanAfter g ram m c)) (loadPastEnd g (scanAfter g ram n (scanAfter g ram m c))))

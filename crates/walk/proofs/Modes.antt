@@ -1,6 +1,6 @@
 -- Laws on mode numbers, and on the character modes over the width of their codes.
 use mathlib.Core.Path.{_≡_, refl}
-use Prim.Native.Nat.{ℕ, zero, suc, _+_, _-_, _*_, _^_, _%_, _≤_, _<_}
+use Prim.Native.Nat.{ℕ, _+_, _-_, _*_, _^_, _%_, _≤_, _<_}
 use native.Mathlib.Nat.{mod-lt}
 use native.Mathlib.Omega.{arith}
 use lib.Arith.{digits-lt}
@@ -8,17 +8,6 @@ use lib.Pow.{pow-pos, pow-add}
 use Rattle.nick.specs.Slots.{Mode, VSYNC, PIXEL, ATTR, CH, UNUSED, LPIXEL, modeNumbered, fontAddress}
 use Rattle.walk.specs.Steps.{stepsOf, StepsOf}
 use Rattle.walk.specs.declared.Steps.{Steps}
-
--- the width of the codes in the character modes
-pub character-mode : (n : ℕ) → 3 ≤ n → n ≤ 5 → modeNumbered n ≡ CH (11 - n)
-unfolding modeNumbered
-character-mode zero a b = absurd (omega arith)
-character-mode (suc zero) a b = absurd (omega arith)
-character-mode (suc (suc zero)) a b = absurd (omega arith)
-character-mode (suc (suc (suc zero))) a b = refl
-character-mode (suc (suc (suc (suc zero)))) a b = refl
-character-mode (suc (suc (suc (suc (suc zero))))) a b = refl
-character-mode (suc (suc (suc (suc (suc (suc n)))))) a b = absurd (omega arith)
 
 -- every font address has 16 bits
 pub font-address-sixteen : (width ld2 code : ℕ) → width ≤ 16 → fontAddress width ld2 code < 65536

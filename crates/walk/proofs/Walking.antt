@@ -1,28 +1,24 @@
 -- Laws on the walk: a scan stays well-formed, which scanlines are stepped together, and walks of some scanlines put together.
 use mathlib.Core.Path.{_≡_, refl, sym, ap, _∙_}
-use mathlib.Core.Bool.{Bool, true, false, not, _||_, true≢false}
+use mathlib.Core.Bool.{Bool, true, false}
 use mathlib.Core.List.{List}
-use Prim.Native.Nat.{ℕ, zero, suc, _+_, _-_, _%_, _≤_, _<_, min}
+use Prim.Native.Nat.{ℕ, zero, suc, _+_, _-_, _≤_, _<_, min}
 use native.Mathlib.Nat.{not-suc-le-zero, lt-irrefl}
 use native.Mathlib.Omega.{arith}
 use lib.Dec.{eqb}
 use borrow.Author.Tests.{eqb-false}
 use Rattle.lists.specs.Choice.{pick}
-use Rattle.nick.specs.Numbers.{isSet}
-use Rattle.nick.specs.Registers.{baseNumber}
-use Rattle.nick.specs.Blocks.{reload, loads, loadedNumber, loaded, continued, begun}
+use Rattle.nick.specs.Blocks.{loads, loaded, continued, begun}
 use Rattle.nick.specs.Refusals.{loadPastEnd, pastEnd}
 use Rattle.nick.specs.declared.Registers.{Registers}
 use Rattle.nick.specs.declared.Scan.{Scan}
+use Rattle.nick.proofs.WellFormed.{begun-number}
+use Rattle.claims.proofs.Scanlines.{scan-add}
+use Rattle.claims.proofs.Refusals.{or-rest, past-end-add}
 use Rattle.walk.specs.Steps.{skipped}
 use Rattle.walk.specs.Walks.{Formed, Reached}
 use Rattle.walk.proofs.Rises.{Sixteen}
-use Rattle.walk.proofs.Lines.{begunBy, lines-inside, past-inside, scan-after-add, past-end-add}
-
--- the second of two tests that both fail
-or-right : (a b : Bool) → a || b ≡ false → b ≡ false
-or-right true b h = absurd (true≢false h)
-or-right false b h = h
+use Rattle.walk.proofs.Lines.{begunBy, lines-inside, past-inside}
 
 begun-left : (g : Registers) (ram : List ℕ) (c : Scan) → c .left ≤ 256 → begun g ram c .block .sc < 256 → (1 ≤ begun g ram c .left) × (begun g ram c .left ≤ 256)
 unfolding begun continued loaded
@@ -31,26 +27,8 @@ begun-left g ram c h = go (loads c) refl
     go : (t : Bool) → loads c ≡ t → begunBy t g ram c .block .sc < 256 → (1 ≤ begunBy t g ram c .left) × (begunBy t g ram c .left ≤ 256)
     go true e s = (omega arith, omega arith)
     go false e s =
-        let some : c .left ≡ 0 → ⊥ = eqb-false (c .left) 0 (or-right (c .pending) (eqb (c .left) 0) e) in
+        let some : c .left ≡ 0 → ⊥ = eqb-false (c .left) 0 (or-rest (c .pending) (eqb (c .left) 0) e) in
         (omega arith, h)
-
-loaded-number-below : (g : Registers) (c : Scan) → g .lpl < 256 → c .number < 4096 → loadedNumber g c < 4096
-unfolding loadedNumber
-loaded-number-below g c l h = go (c .pending) (reload (c .block)) (not (isSet 6 (g .lph)))
-  where
-    go : (p q r : Bool) → pick p (baseNumber g) (pick q (baseNumber g) (pick r (c .number) ((c .number + 1) % 4096))) < 4096
-    go true q r = omega arith
-    go false true r = omega arith
-    go false false true = h
-    go false false false = omega arith
-
-begun-number : (g : Registers) (ram : List ℕ) (c : Scan) → g .lpl < 256 → c .number < 4096 → begun g ram c .number < 4096
-unfolding begun continued loaded
-begun-number g ram c l h = go (loads c)
-  where
-    go : (t : Bool) → begunBy t g ram c .number < 4096
-    go true = loaded-number-below g c l h
-    go false = h
 
 -- a well-formed scan begins well-formed, with a scanline left
 pub begun-formed : (g : Registers) (ram : List ℕ) (c d : Scan) → d ≡ begun g ram c → Formed c → d .block .sc < 256 → g .lpl < 256 → (1 ≤ d .left) × Formed d
@@ -92,8 +70,8 @@ reached-none g ram c f = record { scan = refl; clear = refl; formed = f }
 
 pub reached-more : (g : Registers) (ram : List ℕ) (c d e : Scan) (m n : ℕ) → Reached g ram c m d → Reached g ram d n e → Reached g ram c (m + n) e
 reached-more g ram c d e m n r s = record {
-  scan = rw (scan-after-add g ram c m n, ← r .scan) (s .scan);
-  clear = rw (past-end-add g ram c m n, ← r .scan, r .clear) (s .clear);
+  scan = rw (scan-add g ram m n c, ← r .scan) (s .scan);
+  clear = rw (past-end-add g ram m n c, ← r .scan, r .clear) (s .clear);
   formed = s .formed;
 }
 
@@ -101,4 +79,4 @@ reached-more g ram c d e m n r s = record {
 pub past-at : (g : Registers) (ram : List ℕ) (c d : Scan) (m n : ℕ) → Reached g ram c m d → m < n → loadPastEnd g d ≡ true → pastEnd g ram n c ≡ true
 past-at g ram c d m n r l h =
     let e : m + (1 + (n - suc m)) ≡ n = omega arith in
-    rw (← e, past-end-add g ram c m (1 + (n - suc m)), r .clear, ← r .scan, past-end-add g ram d 1 (n - suc m), h)
+    rw (← e, past-end-add g ram m (1 + (n - suc m)) c, r .clear, ← r .scan, past-end-add g ram 1 (n - suc m) d, h)

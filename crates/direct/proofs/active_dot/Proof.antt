@@ -4,7 +4,7 @@ use mathlib.Core.Logic.{⊎-elim}
 use Prim.Native.Nat.{_/_, _%_}
 use native.Mathlib.Omega.{arith}
 use Rattle.nick.specs.Slots.{modeNumbered}
-use Rattle.walk.proofs.Modes.{character-mode}
+use Rattle.nick.proofs.Modes.{characters}
 use Rattle.direct.proofs.Slots.{vsync-answer, unused-answer, pixel-answer, lpixel-answer}
 use borrow.Author.Needs.{needs}
 use Rattle.direct.proofs.active_dot.Statement.{statement}
@@ -52,7 +52,7 @@ returns-3 c =
 
 returns-4 : tie.Need-returns-4
 returns-4 c =
-    rw (character-mode (c .before .before .before .before .before .before .args .block .mb / 2 % 8) (omega arith) (omega arith)) (c .character-dot .ensures)
+    rw (characters (c .before .before .before .before .before .before .args .block .mb / 2 % 8) (omega arith) (omega arith)) (c .character-dot .ensures)
 
 returns-5 : tie.Need-returns-5
 returns-5 c =

@@ -3,7 +3,8 @@ use mathlib.Core.Path.{_∙_}
 use mathlib.Core.Logic.{⊎-elim}
 use native.Mathlib.Omega.{arith}
 use Rattle.nick.specs.Slots.{modeNumbered}
-use Rattle.walk.proofs.Modes.{character-mode, steps-small, vsync-steps, unused-steps}
+use Rattle.walk.proofs.Modes.{steps-small, vsync-steps, unused-steps}
+use Rattle.nick.proofs.Modes.{characters}
 use borrow.Author.Needs.{needs}
 use Rattle.walk.proofs.steps_of.Statement.{statement}
 use Rattle.walk.proofs.steps_of.Tie as tie
@@ -38,7 +39,7 @@ returns-3 c = steps-small (modeNumbered (c .before .before .args .mode)) (c .ste
 returns-4 : tie.Need-returns-4
 returns-4 c =
     let n = c .before .before .before .before .args .mode in
-    steps-small (modeNumbered n) (c .steps-by4 .result) (c .steps-by4 .ensures ∙ rw (character-mode n (omega arith) (omega arith)))
+    steps-small (modeNumbered n) (c .steps-by4 .result) (c .steps-by4 .ensures ∙ rw (characters n (omega arith) (omega arith)))
 
 returns-5 : tie.Need-returns-5
 returns-5 c =

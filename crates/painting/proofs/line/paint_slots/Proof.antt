@@ -47,7 +47,7 @@ loop-again c =
     let inv = c .before .before .before .before .before .loop .inv in (
       omega arith,
       c .before .out .given ∙ inv .1,
-      e .dots ∙ slot-more (c .before .before .before .before .before .before .before .before .before .before .before .args .registers) ram b _ n p (c .before .before .before .before .before .loop .slot .at) (c .before .before .before .before .before .before .before .before .before .before .before .args .out .now) (c .before .before .before .before .before .loop .out) (inv .2) (inv .3),
+      e .dots ∙ slot-more (c .before .before .before .before .before .before .before .before .before .before .before .args .registers) ram (c .before .before .before .before .before .before .before .before .before .before .before .args .begun) _ n (c .before .before .before .before .before .loop .slot .at) (c .before .before .before .before .before .before .before .before .before .before .before .args .out .now) (c .before .before .before .before .before .loop .out) (inv .2) (inv .3),
       rw (add-one n) (e .at ∙ ap (pastSlot (activeAt b n) b) (inv .3)),
       e .fetched ∙ fetched-more ram b n p (c .before .before .before .before .before .loop .slot .at) (c .before .before .before .before .before .loop .slot .fetched) (inv .3) (inv .4),
       omega (arith, e .few),
