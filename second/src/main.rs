@@ -15,6 +15,8 @@ const USAGE: &str = "usage:
   second colours
   second coverage
   second list RAMFILE FIXBIAS BORDER LPL LPH
+  second dot RAMFILE FIXBIAS BORDER LPL LPH LINE DOT EXTERNAL
+  second paint RAMFILE FIXBIAS BORDER LPL LPH HEIGHT DOTSFILE RECORDSFILE
   second bench MODE N [COLOURMODE]";
 
 fn main() -> ExitCode {
@@ -34,6 +36,12 @@ fn run(words: &[&str]) -> Result<(), String> {
         ["colours"] => families::print_colours(),
         ["coverage"] => families::print_coverage(),
         ["list", file, registers @ ..] if registers.len() == 4 => return list(file, registers),
+        ["dot", file, registers @ .., line, dot, external] if registers.len() == 4 => {
+            return dot_words(file, registers, number(line)?, number(dot)?, number(external)?)
+        }
+        ["paint", file, registers @ .., height, dots, records] if registers.len() == 4 => {
+            return paint(file, registers, number(height)?, dots, records)
+        }
         ["bench", mode, times] => bench(mode, times, 0..4)?,
         ["bench", mode, times, colours] => {
             let first = number::<u8>(colours)?.min(4);
@@ -63,13 +71,51 @@ fn bench(mode: &str, times: &str, colours: std::ops::Range<u8>) -> Result<(), St
     Ok(())
 }
 
-fn list(file: &str, registers: &[&str]) -> Result<(), String> {
-    let ram = std::fs::read(file).map_err(|error| format!("{file}: {error}"))?;
+fn read(file: &str) -> Result<Vec<u8>, String> {
+    std::fs::read(file).map_err(|error| format!("{file}: {error}"))
+}
+
+/// The fresh state after writes of the four registers.
+fn state_of(registers: &[&str]) -> Result<nick::State, String> {
     let mut state = nick::State::fresh();
     for (port, value) in (128..).zip(registers) {
         nick::write_register(&mut state, port, number(value)?);
     }
+    Ok(state)
+}
+
+fn list(file: &str, registers: &[&str]) -> Result<(), String> {
+    let ram = read(file)?;
+    let state = state_of(registers)?;
     let mut text = vec![0; random::LISTING_BUFFER];
     let length = nick::list_table(&state, &ram, &mut text).map_err(|n| format!("refusal {n}"))?;
     std::io::stdout().write_all(&text[..length]).map_err(|error| error.to_string())
+}
+
+fn dot_words(file: &str, registers: &[&str], line: u32, dot: u32, external: u8) -> Result<(), String> {
+    let ram = read(file)?;
+    let state = state_of(registers)?;
+    let answer = nick::ask_dot(&state, &ram, line, dot, external).map_err(|n| format!("refusal {n}"))?;
+    let (red, green, blue) = nick::levels(answer.colour);
+    println!("colour {}: red {red} of 7, green {green} of 7, blue {blue} of 3", answer.colour);
+    for address in &answer.addresses[..answer.count] {
+        println!("from address {address}: {}", ram[usize::from(*address)]);
+    }
+    if answer.count == 0 {
+        println!("from no byte of RAM (border, blanking or unused mode)");
+    }
+    Ok(())
+}
+
+fn paint(file: &str, registers: &[&str], height: u32, dots: &str, records: &str) -> Result<(), String> {
+    let ram = read(file)?;
+    let mut state = state_of(registers)?;
+    let mut dot_bytes = vec![0; 736 * height as usize];
+    let mut record_bytes = vec![0; 4 * height as usize];
+    let refusal = nick::paint_frame(&mut state, &ram, height, &mut dot_bytes, &mut record_bytes, &[]);
+    if refusal != 0 {
+        return Err(format!("refusal {refusal}"));
+    }
+    std::fs::write(dots, dot_bytes).map_err(|error| format!("{dots}: {error}"))?;
+    std::fs::write(records, record_bytes).map_err(|error| format!("{records}: {error}"))
 }

@@ -11,7 +11,7 @@ use nick::Registers;
 use nick::Scan;
 
 // The sum of a byte and 256 times another.
-fn word(low: u8, high: u8) -> u16
+pub fn word(low: u8, high: u8) -> u16
     ensures { λ r. ⌜ r ≡ low + 256 * high ⌝ }
 {
     low as u16 + 256 * (high as u16)

@@ -1,0 +1,114 @@
+// The files and numbers that the program's arguments name.
+ghost use Prim.Native.Nat.{_+_, _*_, _≤_, min};
+ghost use mathlib.Core.Path.{_≡_};
+ghost use lib.ListN.{length};
+ghost use Rattle.files.specs.Numbers.{digit as Numbers·digit, numberOf};
+
+// What was read into a buffer: whether the file could be read, and its length, or the buffer's where the file is longer.
+pub struct Contents {
+    pub is_read: bool,
+    pub length: usize,
+}
+
+// A number as an argument gives it; numbers over 65,536 count as 65,536.
+pub enum Number {
+    Value(usize),
+    Missing,
+}
+
+// Whether nothing is left to read. A read that fails moves nothing, so after one this read fails too.
+fn is_at_end(fd: i32) -> bool {
+    let mut one = [0u8; 1];
+    libc::read(fd, &mut one) == 0
+}
+
+// Reads until the buffer is full or the file ends.
+fn read_open(fd: i32, buf: &mut [u8]) -> Contents
+    ensures { λ r. ⌜ r .length ≤ length (now (buf .entry)) ⌝ }
+{
+    let length = io::read_full(fd, buf);
+    Contents {
+        is_read: length == buf.len() || is_at_end(fd),
+        length,
+    }
+}
+
+// Reads the file that argument i names.
+pub fn read_argument(i: usize, buf: &mut [u8]) -> Contents
+    ensures { λ r. ⌜ r .length ≤ length (now (buf .entry)) ⌝ }
+{
+    let mut path = io::buffer();
+    let n = os::arg(i, &mut path);
+    let fd = os::open_read(&path[..n]);
+    if fd < 0 {
+        return Contents {
+            is_read: false,
+            length: 0,
+        };
+    }
+    let contents = read_open(fd, buf);
+    libc::close(fd);
+    contents
+}
+
+// Writes the file that argument i names, and answers whether all of it is written.
+pub fn write_argument(i: usize, bytes: &[u8]) -> bool {
+    let mut path = io::buffer();
+    let n = os::arg(i, &mut path);
+    let fd = os::open_overwrite(&path[..n]);
+    if fd < 0 {
+        return false;
+    }
+    let is_written = io::write_all(fd, bytes);
+    let is_closed = libc::close(fd) == 0;
+    is_written && is_closed
+}
+
+// The value of a digit; 10 for any other byte.
+fn digit(byte: u8) -> usize
+    ensures { λ r. ⌜ (r ≡ Numbers·digit byte) × (r ≤ 10) ⌝ }
+{
+    if byte < 48 {
+        return 10;
+    }
+    if 57 < byte {
+        return 10;
+    }
+    (byte - 48) as usize
+}
+
+// The number with one digit more, at most 65,536.
+fn with_digit(value: usize, digit: usize) -> usize
+    requires { ⌜ (value ≤ 65536) × (digit ≤ 10) ⌝ }
+    ensures { λ r. ⌜ r ≡ min (10 * value + digit) 65536 ⌝ }
+{
+    let longer = 10 * value + digit;
+    if longer < 65536 { longer } else { 65536 }
+}
+
+// The number that decimal digits spell.
+fn number_of(text: &[u8]) -> Number
+    ensures { λ r. ⌜ r ≡ numberOf (now (text .entry)) ⌝ }
+{
+    if text.len() == 0 {
+        return Number::Missing;
+    }
+    let mut value: usize = 0;
+    let mut i: usize = 0;
+    while i < text.len() {
+        let next = digit(text[i]);
+        if 9 < next {
+            return Number::Missing;
+        }
+        value = with_digit(value, next);
+        i += 1;
+    }
+    Number::Value(value)
+}
+
+// The number that argument i is.
+pub fn number_argument(i: usize) -> Number {
+    let mut text = io::buffer();
+    let n = os::arg(i, &mut text);
+    number_of(&text[..n])
+}

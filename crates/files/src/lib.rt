@@ -1,0 +1,14 @@
+// What the programs share: files and numbers named by the arguments, register writes from a file, and the lines printed.
+mod argument;
+mod print;
+mod writes;
+
+pub use argument::Contents;
+pub use argument::Number;
+pub use argument::number_argument;
+pub use argument::read_argument;
+pub use argument::write_argument;
+pub use print::print_refusal;
+pub use print::print_unreadable;
+pub use print::print_unwritten;
+pub use writes::apply_writes;

@@ -1,0 +1,58 @@
+// The lines that a program prints where it does not do what it is for.
+use libc::STDOUT_FILENO;
+
+// The words of a refusal.
+fn print_words(refusal: u8) {
+    match refusal {
+        1 => io::write_all(STDOUT_FILENO, b"port outside 128 to 143"),
+        2 => io::write_all(STDOUT_FILENO, b"port 132 to 143 (reserved)"),
+        3 => io::write_all(
+            STDOUT_FILENO,
+            b"scanlines left over 256, or block number over 4,095",
+        ),
+        4 => io::write_all(STDOUT_FILENO, b"RAM not 65,536 bytes"),
+        5 => io::write_all(STDOUT_FILENO, b"height 0 or over 1,024"),
+        6 => io::write_all(STDOUT_FILENO, b"dot buffer not 736 times the height"),
+        7 => io::write_all(STDOUT_FILENO, b"record buffer not 4 times the height"),
+        8 => io::write_all(
+            STDOUT_FILENO,
+            b"external input neither empty nor 736 times the height",
+        ),
+        9 => io::write_all(STDOUT_FILENO, b"line over 1,023 or dot over 735"),
+        10 => io::write_all(STDOUT_FILENO, b"output shorter than the whole listing"),
+        _ => io::write_all(
+            STDOUT_FILENO,
+            b"a block to be loaded would run past address 65,535",
+        ),
+    }
+    ;
+}
+
+// Prints a refusal: its number and its words.
+pub fn print_refusal(refusal: u8) {
+    io::write_all(STDOUT_FILENO, b"refused ");
+    io::print_decimal(STDOUT_FILENO, refusal as u64);
+    io::write_all(STDOUT_FILENO, b": ");
+    print_words(refusal);
+    io::write_all(STDOUT_FILENO, b"\n");
+}
+
+// Prints argument i and ends the line.
+fn print_argument(i: usize) {
+    let mut path = io::buffer();
+    let n = os::arg(i, &mut path);
+    io::write_all(STDOUT_FILENO, &path[..n]);
+    io::write_all(STDOUT_FILENO, b"\n");
+}
+
+// Prints that the file that argument i names could not be read.
+pub fn print_unreadable(i: usize) {
+    io::write_all(STDOUT_FILENO, b"cannot read ");
+    print_argument(i);
+}
+
+// Prints that the file that argument i names could not be written.
+pub fn print_unwritten(i: usize) {
+    io::write_all(STDOUT_FILENO, b"cannot write ");
+    print_argument(i);
+}

@@ -1,0 +1,27 @@
+-- `nick_c::encoding::encode_state` copies all 32 bytes.
+use mathlib.Core.Path.{_∙_}
+use Rattle.nick_c.proofs.StateBytes.{copied}
+use borrow.Author.Needs.{needs}
+use Rattle.nick_c.proofs.encoding.encode_state.Statement.{statement}
+use Rattle.nick_c.proofs.encoding.encode_state.Tie as tie
+
+state-bytes-requires : tie.Need-state-bytes-requires
+state-bytes-requires c κs = search needs
+
+slice-aggregate-copy : tie.Need-slice-aggregate-copy
+slice-aggregate-copy c = search needs
+
+copy-requires : tie.Need-copy-requires
+copy-requires c κs = search needs
+
+same-length : tie.Need-same-length
+same-length c = search needs
+
+returns : tie.Need-returns
+returns c =
+    copied (c .before .before .before .before .before .state-bytes .result) (c .before .before .before .before .before .before .before .args .out .now) _ (c .before .before .copy .ensures .1) (search needs) ∙ c .before .before .before .before .before .state-bytes .ensures
+
+pub encode-state-spec : {M : Type 1} → statement M
+encode-state-spec =
+    tie.close
+    (tie.spec state-bytes-requires slice-aggregate-copy copy-requires same-length returns)

@@ -1,0 +1,109 @@
+-- What each exported call answers, and what it leaves in the bytes that it was lent.
+use Prim.Native.Nat.{ℕ, _+_, _*_, _^_}
+use mathlib.Core.Path.{_≡_}
+use mathlib.Core.Bool.{Bool}
+use mathlib.Core.List.{List}
+use lib.Dec.{eqb}
+use lib.ListN.{length, replicate}
+use Rattle.lists.specs.Choice.{pick}
+use Rattle.nick.specs.Registers.{freshState, writeRefusal, written}
+use Rattle.nick.specs.Painting.{paint}
+use Rattle.nick.specs.Numbers.{byteAt}
+use Rattle.nick.specs.Direct.{Answered, refused, colour, direct}
+use Rattle.nick.specs.Listing.{listAnswer, listOutput}
+use Rattle.nick.specs.declared.Levels.{Levels}
+use Rattle.nick.specs.declared.Listed.{Listed}
+use Rattle.nick.specs.declared.Listed.the-variants.{Length, Refused}
+use Rattle.nick.specs.declared.State.{State}
+use Rattle.nick_c.specs.Encoding.{encoded, stateOf}
+
+-- a state has 32 bytes
+abbrev pub isState : List ℕ → Bool
+isState b = eqb (length b) 32
+
+-- refusal 3, where a state has another length
+abbrev pub lengthRefusal : List ℕ → ℕ
+lengthRefusal b = pick (isState b) 0 3
+
+-- the state's bytes after a call: a refused call leaves them
+abbrev pub kept : ℕ → State → List ℕ → List ℕ
+kept refusal s b = pick (eqb refusal 0) (encoded s) b
+
+-- the fresh state
+pub record Freshens (b₀ b₁ : List ℕ) (r : ℕ) : Type 0 where
+  pub answer : r ≡ lengthRefusal b₀
+  pub state : b₁ ≡ kept (lengthRefusal b₀) freshState b₀
+
+-- a register write's refusal: the smallest number that applies
+unfoldable pub portRefusal : List ℕ → ℕ → ℕ
+portRefusal b port = pick (eqb (writeRefusal port) 0) (lengthRefusal b) (writeRefusal port)
+
+-- a register write
+pub record Writes (b₀ : List ℕ) (port value : ℕ) (b₁ : List ℕ) (r : ℕ) : Type 0 where
+  pub answer : r ≡ portRefusal b₀ port
+  pub state : b₁ ≡ kept (portRefusal b₀ port) (written (stateOf b₀) port value) b₀
+
+-- what a painting leaves: the refusal, 0 for none, the state's bytes, and the two buffers
+pub record Bytes : Type 0 where
+  pub refusal : ℕ
+  pub state : List ℕ
+  pub dots : List ℕ
+  pub records : List ℕ
+
+-- a painting from a state of another length: the bytes and the dots stay, and every record byte is 255
+abbrev pub withoutState : List ℕ → List ℕ → List ℕ → Bytes
+withoutState b dots records = record { refusal = 3; state = b; dots = dots; records = replicate (length records) 255 }
+
+-- the rules' painting, the state being given and left as bytes
+abbrev pub withState : List ℕ → List ℕ → ℕ → List ℕ → List ℕ → List ℕ → Bytes
+withState b ram h dots records external =
+    let p = paint (stateOf b) ram h dots records external in
+    record {
+      refusal = p .refusal;
+      state = kept (p .refusal) (p .state) b;
+      dots = p .dots;
+      records = p .records;
+    }
+
+unfoldable pub paintBytes : List ℕ → List ℕ → ℕ → List ℕ → List ℕ → List ℕ → Bytes
+paintBytes b ram h dots records external =
+    pick (isState b) (withState b ram h dots records external) (withoutState b dots records)
+
+-- the promise of both paintings
+pub record PaintsBytes (b₀ ram : List ℕ) (h : ℕ) (dots₀ records₀ external b₁ dots₁ records₁ : List ℕ) (r : ℕ) : Type 0 where
+  pub answer : r ≡ paintBytes b₀ ram h dots₀ records₀ external .refusal
+  pub state : b₁ ≡ paintBytes b₀ ram h dots₀ records₀ external .state
+  pub dots : dots₁ ≡ paintBytes b₀ ram h dots₀ records₀ external .dots
+  pub records : records₁ ≡ paintBytes b₀ ram h dots₀ records₀ external .records
+
+-- bits 16 to 23 how many addresses, 24 to 39 and 40 to 55 the addresses in order, else zeros
+abbrev pub packedAddresses : List ℕ → ℕ
+packedAddresses named = 2 ^ 16 * length named + 2 ^ 24 * byteAt named 0 + 2 ^ 40 * byteAt named 1
+
+-- bits 0 to 7 the refusal, 8 to 15 the colour
+abbrev pub packedAnswer : Answered → ℕ
+packedAnswer (refused n) = n
+packedAnswer (colour c named) = 2 ^ 8 * c + packedAddresses named
+
+-- the direct answer
+unfoldable pub dotAnswer : List ℕ → List ℕ → ℕ → ℕ → ℕ → ℕ
+dotAnswer b ram line dot external = pick (isState b) (packedAnswer (direct (stateOf b) ram line dot external)) 3
+
+-- a listing's length; none where it is refused
+abbrev pub lengthOf : Listed → ℕ
+lengthOf (Length n) = n
+lengthOf (Refused n) = 0
+
+-- bits 0 to 31 the refusal, 32 to 63 the length
+abbrev pub packedListed : Listed → ℕ
+packedListed (Length n) = 2 ^ 32 * n
+packedListed (Refused n) = n
+
+-- the listing; a state of another length keeps the output
+pub record ListsBytes (b ram out₀ out₁ : List ℕ) (r : ℕ) : Type 0 where
+  pub answer : r ≡ pick (isState b) (packedListed (listAnswer (stateOf b .registers) ram out₀)) 3
+  pub output : out₁ ≡ pick (isState b) (listOutput (stateOf b .registers) ram out₀) out₀
+
+-- red + 256 * green + 65,536 * blue
+abbrev pub packedLevels : Levels → ℕ
+packedLevels v = v .red + 256 * v .green + 65536 * v .blue

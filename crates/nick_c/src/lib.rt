@@ -1,0 +1,124 @@
+// The library for C, Rust and Python: the chip's state is 32 bytes, and every call is an exported function that answers a
+// number. include/nick.h declares them.
+ghost use mathlib.Core.Path.{_≡_};
+ghost use lib.ListN.{length};
+ghost use Rattle.nick.specs.Levels.{levelsOf};
+ghost use Rattle.nick_c.specs.Calls.{Freshens, Writes, PaintsBytes, ListsBytes, dotAnswer, packedLevels, kept};
+
+mod answer;
+mod encoding;
+
+use answer::packed_answer;
+use answer::packed_listed;
+use encoding::STATE_BYTES;
+use encoding::decode_state;
+use encoding::encode_state;
+use nick::State;
+
+// Stores the state after a call, unless it was refused, and answers the refusal.
+fn keep(refusal: u8, next: State, state: &mut [u8]) -> u32
+    requires { ⌜ length (now state) ≡ 32 ⌝ }
+    ensures { λ r. ⌜ (r ≡ refusal) × (now (state .exit) ≡ kept refusal next (now (state .entry))) ⌝ }
+{
+    if refusal != 0 {
+        return refusal as u32;
+    }
+    encode_state(next, state);
+    0
+}
+
+// The state before any write. 3 where `state` has another length than 32.
+#[no_mangle]
+pub extern "C" fn nick_fresh(state: &mut [u8]) -> u32
+    ensures { λ r. ⌜ Freshens (now (state .entry)) (now (state .exit)) r ⌝ }
+{
+    if state.len() != STATE_BYTES {
+        return 3;
+    }
+    keep(0, nick::fresh(), state)
+}
+
+// Writes one register.
+#[no_mangle]
+pub extern "C" fn nick_write(state: &mut [u8], port: u32, value: u8) -> u32
+    ensures { λ r. ⌜ Writes (now (state .entry)) port value (now (state .exit)) r ⌝ }
+{
+    if state.len() != STATE_BYTES {
+        let refusal = nick::write(nick::fresh(), port, value).refusal;
+        if refusal != 0 {
+            return refusal as u32;
+        }
+        return 3;
+    }
+    let written = nick::write(decode_state(state), port, value);
+    let next = written.state;
+    keep(written.refusal, next, state)
+}
+
+// Paints `height` scanlines, or refuses: then the state and the dots stay, and every record byte is 255.
+#[no_mangle]
+pub extern "C" fn nick_paint(
+    state: &mut [u8],
+    ram: &[u8],
+    height: usize,
+    dots: &mut [u8],
+    records: &mut [u8],
+    external: &[u8],
+) -> u32
+    ensures { λ r. ⌜ PaintsBytes (now (state .entry)) (now (ram .entry)) height (now (dots .entry)) (now (records .entry)) (now (external .entry)) (now (state .exit)) (now (dots .exit)) (now (records .exit)) r ⌝ }
+{
+    if state.len() != STATE_BYTES {
+        lists::fill(records, 255);
+        return 3;
+    }
+    let painted = painting::paint_lines(decode_state(state), ram, height, dots, records, external);
+    let next = painted.state;
+    keep(painted.refusal, next, state)
+}
+
+// Paints one scanline, or refuses.
+#[no_mangle]
+pub extern "C" fn nick_paint_line(
+    state: &mut [u8],
+    ram: &[u8],
+    dots: &mut [u8],
+    records: &mut [u8],
+    external: &[u8],
+) -> u32
+    ensures { λ r. ⌜ PaintsBytes (now (state .entry)) (now (ram .entry)) 1 (now (dots .entry)) (now (records .entry)) (now (external .entry)) (now (state .exit)) (now (dots .exit)) (now (records .exit)) r ⌝ }
+{
+    nick_paint(state, ram, 1, dots, records, external)
+}
+
+// The direct answer for a dot of scanline `line` from here, `external` being its external byte, 0 if nothing is connected.
+#[no_mangle]
+pub extern "C" fn nick_dot(state: &[u8], ram: &[u8], line: usize, dot: usize, external: u8) -> u64
+    ensures { λ r. ⌜ r ≡ dotAnswer (now (state .entry)) (now (ram .entry)) line dot external ⌝ }
+{
+    if state.len() != STATE_BYTES {
+        return 3;
+    }
+    packed_answer(direct::dot(decode_state(state), ram, line, dot, external))
+}
+
+// Writes the listing of the line parameter table that starts at the base block.
+#[no_mangle]
+pub extern "C" fn nick_list(state: &[u8], ram: &[u8], out: &mut [u8]) -> u64
+    ensures { λ r. ⌜ ListsBytes (now (state .entry)) (now (ram .entry)) (now (out .entry)) (now (out .exit)) r ⌝ }
+{
+    if state.len() != STATE_BYTES {
+        return 3;
+    }
+    let decoded = decode_state(state);
+    let registers = decoded.registers;
+    packed_listed(listing::list(registers, ram, out))
+}
+
+// The levels of a colour byte: red + 256 * green + 65,536 * blue.
+#[no_mangle]
+pub extern "C" fn nick_levels(colour: u8) -> u32
+    ensures { λ r. ⌜ r ≡ packedLevels (levelsOf colour) ⌝ }
+{
+    let levels = nick::levels_of(colour);
+    levels.red as u32 + 256 * (levels.green as u32) + 65536 * (levels.blue as u32)
+}

@@ -1,0 +1,164 @@
+// Says what one dot shows and which bytes of RAM it comes from:
+// nickdot RAM WRITES LINE DOT [EXTERNAL-BYTE]
+ghost use mathlib.Core.Path.{_≡_};
+ghost use lib.ListN.{length};
+use files::Number;
+use libc::STDOUT_FILENO;
+use nick::Answer;
+use nick::Sources;
+
+// The arguments.
+const RAM: usize = 1;
+
+const WRITES: usize = 2;
+
+const LINE: usize = 3;
+
+const DOT: usize = 4;
+
+const EXTERNAL: usize = 5;
+
+fn print_usage() {
+    io::write_all(
+        STDOUT_FILENO,
+        b"usage: nickdot RAM WRITES LINE DOT [EXTERNAL-BYTE]; WRITES is pairs of bytes, port and value, at most 32,768\n",
+    );
+}
+
+// Prints a byte as a number.
+fn print_byte(byte: u8) {
+    io::print_decimal(STDOUT_FILENO, byte as u64);
+}
+
+// Prints a level: the words before it, the level, and the highest level.
+fn print_level(words: &[u8], level: u8, highest: &[u8]) {
+    io::write_all(STDOUT_FILENO, words);
+    print_byte(level);
+    io::write_all(STDOUT_FILENO, b" of ");
+    io::write_all(STDOUT_FILENO, highest);
+}
+
+// Prints a colour and its levels.
+fn print_colour(colour: u8) {
+    let levels = nick::levels_of(colour);
+    io::write_all(STDOUT_FILENO, b"colour ");
+    print_byte(colour);
+    print_level(b": red ", levels.red, b"7");
+    print_level(b", green ", levels.green, b"7");
+    print_level(b", blue ", levels.blue, b"3\n");
+}
+
+// Prints an address that the dot comes from, and the byte there.
+fn print_source(ram: &[u8], address: u16)
+    requires { ⌜ length (now ram) ≡ 65536 ⌝ }
+{
+    let at = address as usize;
+    io::write_all(STDOUT_FILENO, b"from address ");
+    io::print_decimal(STDOUT_FILENO, address as u64);
+    io::write_all(STDOUT_FILENO, b": ");
+    print_byte(ram[at]);
+    io::write_all(STDOUT_FILENO, b"\n");
+}
+
+// Prints where the dot comes from.
+fn print_sources(ram: &[u8], sources: Sources)
+    requires { ⌜ length (now ram) ≡ 65536 ⌝ }
+{
+    match sources {
+        Sources::Nothing => {
+            io::write_all(
+                STDOUT_FILENO,
+                b"from no byte of RAM (border, blanking or unused mode)\n",
+            );
+        }
+        Sources::One(address) => print_source(ram, address),
+        Sources::Two(first, second) => {
+            print_source(ram, first);
+            print_source(ram, second);
+        }
+    }
+}
+
+// Prints the direct answer from what the files hold.
+fn answer(ram: &[u8], writes: &[u8], line: usize, dot: usize, external: u8) {
+    let written = files::apply_writes(writes);
+    if written.refusal != 0 {
+        files::print_refusal(written.refusal);
+        return;
+    }
+    match direct::dot(written.state, ram, line, dot, external) {
+        Answer::Refused(refusal) => files::print_refusal(refusal),
+        Answer::Colour(colour, sources) => {
+            print_colour(colour);
+            print_sources(ram, sources);
+        }
+    }
+}
+
+// Reads the files and answers.
+fn answer_files(line: usize, dot: usize, external: u8, ram: &mut [u8], writes: &mut [u8]) {
+    let first = files::read_argument(RAM, ram);
+    if !first.is_read {
+        files::print_unreadable(RAM);
+        return;
+    }
+    let second = files::read_argument(WRITES, writes);
+    if !second.is_read {
+        files::print_unreadable(WRITES);
+        return;
+    }
+    let ram_end = first.length;
+    let writes_end = second.length;
+    if writes_end % 2 == 1 {
+        print_usage();
+        return;
+    }
+    answer(
+        &ram[0..ram_end],
+        &writes[0..writes_end],
+        line,
+        dot,
+        external,
+    );
+}
+
+// The external byte: 0 where the argument is absent, over 255 where it is no byte.
+fn external_asked() -> usize {
+    if os::arg_count() <= EXTERNAL {
+        return 0;
+    }
+    match files::number_argument(EXTERNAL) {
+        Number::Value(n) => n,
+        Number::Missing => 256,
+    }
+}
+
+// Does what the arguments ask.
+fn run_lent(ram: &mut [u8], writes: &mut [u8]) {
+    let count = os::arg_count();
+    let external = external_asked();
+    if count <= DOT || EXTERNAL + 1 < count || 255 < external {
+        print_usage();
+        return;
+    }
+    let Number::Value(line) = files::number_argument(LINE) else {
+        print_usage();
+        return;
+    };
+    let Number::Value(dot) = files::number_argument(DOT) else {
+        print_usage();
+        return;
+    };
+    answer_files(line, dot, external as u8, ram, writes);
+}
+
+// Each buffer holds one byte more than is allowed, so that a longer file shows.
+fn run(ram: &mut [u8; 65537], writes: &mut [u8; 65537]) {
+    run_lent(ram, writes);
+}
+
+fn main() {
+    let mut ram = [0u8; 65537];
+    let mut writes = [0u8; 65537];
+    run(&mut ram, &mut writes);
+}

@@ -1,0 +1,81 @@
+// Lists the line parameter table:
+// nicklist RAM WRITES
+ghost use Prim.Native.Nat.{_≤_};
+ghost use lib.ListN.{length as List·length};
+use libc::STDOUT_FILENO;
+use nick::Listed;
+use nick::Registers;
+
+// The arguments.
+const RAM: usize = 1;
+
+const WRITES: usize = 2;
+
+fn print_usage() {
+    io::write_all(
+        STDOUT_FILENO,
+        b"usage: nicklist RAM WRITES; WRITES is pairs of bytes, port and value, at most 32,768\n",
+    );
+}
+
+// Prints the listing at the start of the text.
+fn print_text(text: &[u8], length: usize)
+    requires { ⌜ length ≤ List·length (now text) ⌝ }
+{
+    io::write_all(STDOUT_FILENO, &text[0..length]);
+}
+
+// Prints the listing, or the refusal.
+fn print_listing(registers: Registers, ram: &[u8], text: &mut [u8]) {
+    match listing::list(registers, ram, text) {
+        Listed::Length(length) => print_text(text, length),
+        Listed::Refused(refusal) => files::print_refusal(refusal),
+    }
+}
+
+// Lists what the files hold.
+fn list(ram: &[u8], writes: &[u8], text: &mut [u8]) {
+    let written = files::apply_writes(writes);
+    if written.refusal != 0 {
+        files::print_refusal(written.refusal);
+        return;
+    }
+    print_listing(written.state.registers, ram, text);
+}
+
+// Reads the files and lists.
+fn run_lent(ram: &mut [u8], writes: &mut [u8], text: &mut [u8]) {
+    if os::arg_count() != WRITES + 1 {
+        print_usage();
+        return;
+    }
+    let first = files::read_argument(RAM, ram);
+    if !first.is_read {
+        files::print_unreadable(RAM);
+        return;
+    }
+    let second = files::read_argument(WRITES, writes);
+    if !second.is_read {
+        files::print_unreadable(WRITES);
+        return;
+    }
+    let ram_end = first.length;
+    let writes_end = second.length;
+    if writes_end % 2 == 1 {
+        print_usage();
+        return;
+    }
+    list(&ram[0..ram_end], &writes[0..writes_end], text);
+}
+
+// RAM and WRITES hold one byte more than is allowed, so that a longer file shows. The longest listing has 323,609 bytes.
+fn run(ram: &mut [u8; 65537], writes: &mut [u8; 65537], text: &mut [u8; 323609]) {
+    run_lent(ram, writes, text);
+}
+
+fn main() {
+    let mut ram = [0u8; 65537];
+    let mut writes = [0u8; 65537];
+    let mut text = [0u8; 323609];
+    run(&mut ram, &mut writes, &mut text);
+}

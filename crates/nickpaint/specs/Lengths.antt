@@ -1,0 +1,26 @@
+-- Lengths of the buffers: of the whole ones, of what was read into them, and of the parts that are painted.
+use Prim.Native.Nat.{ℕ, _*_, _≤_}
+use mathlib.Core.Path.{_≡_}
+use mathlib.Core.List.{List}
+use lib.ListN.{length}
+use Rattle.nickpaint.specs.declared.Lengths.{Lengths}
+
+-- the whole buffers: RAM, register writes, dots, records, external input
+pub record Whole (m w d r e : List ℕ) : Type 0 where
+  pub ram : length m ≡ 65537
+  pub writes : length w ≡ 65537
+  pub dots : length d ≡ 753664
+  pub records : length r ≡ 4096
+  pub external : length e ≡ 753665
+
+-- what was read is within the buffers
+pub record Within (l : Lengths) (m w e : List ℕ) : Type 0 where
+  pub ram : l .ram ≤ length m
+  pub writes : l .writes ≤ length w
+  pub external : l .external ≤ length e
+
+-- the buffers of a frame
+pub record Sizes (h : ℕ) (d r : List ℕ) : Type 0 where
+  pub height : h ≤ 1024
+  pub dots : length d ≡ 736 * h
+  pub records : length r ≡ 4 * h

@@ -1,0 +1,266 @@
+// Paints scanlines from files, line by line:
+// nickpaint RAM WRITES HEIGHT DOTS RECORDS [EXTERNAL]
+//
+// RECORDS is stamped first and written last, so that a run that is refused, fails or is stopped leaves a stamped one.
+mod lines;
+
+ghost use mathlib.Core.Path.{_≡_};
+ghost use Prim.Native.Nat.{_*_, _≤_};
+ghost use lib.ListN.{length};
+ghost use Rattle.nickpaint.specs.Lengths.{Whole, Within};
+use files::Number;
+use libc::STDOUT_FILENO;
+use lines::paint_by_line;
+use lines::refusal;
+use nick::State;
+
+// The arguments.
+const RAM: usize = 1;
+
+const WRITES: usize = 2;
+
+const HEIGHT: usize = 3;
+
+const DOTS: usize = 4;
+
+const RECORDS: usize = 5;
+
+const EXTERNAL: usize = 6;
+
+// How much was read of each file, and the argument that could not be read, 0 for none.
+pub struct Lengths {
+    pub unread: usize,
+    pub ram: usize,
+    pub writes: usize,
+    pub external: usize,
+}
+
+fn print_usage() {
+    io::write_all(
+        STDOUT_FILENO,
+        b"usage: nickpaint RAM WRITES HEIGHT DOTS RECORDS [EXTERNAL]; WRITES is pairs of bytes, port and value, at most 32,768\n",
+    );
+}
+
+fn print_painted(height: usize) {
+    io::write_all(STDOUT_FILENO, b"painted ");
+    io::print_decimal(STDOUT_FILENO, height as u64);
+    io::write_all(STDOUT_FILENO, b" lines\n");
+}
+
+// The lines to stamp: those asked for, but at least one and at most 1,024.
+fn lines_stamped(height: Number) -> usize
+    ensures { λ r. ⌜ r ≤ 1024 ⌝ }
+{
+    let Number::Value(n) = height else {
+        return 1;
+    };
+    if n == 0 {
+        return 1;
+    }
+    if 1024 < n {
+        return 1024;
+    }
+    n
+}
+
+// Writes RECORDS with a stamp for each line.
+fn stamp(lines: usize, records: &mut [u8]) -> bool
+    requires { ⌜ 4 * lines ≤ length (now records) ⌝ }
+{
+    lists::fill(records, 255);
+    let end = 4 * lines;
+    files::write_argument(RECORDS, &records[0..end])
+}
+
+// Reads EXTERNAL, which may be absent.
+fn read_external(external: &mut [u8]) -> files::Contents
+    ensures { λ r. ⌜ r .length ≤ length (now (external .entry)) ⌝ }
+{
+    if os::arg_count() <= EXTERNAL {
+        return files::Contents {
+            is_read: true,
+            length: 0,
+        };
+    }
+    files::read_argument(EXTERNAL, external)
+}
+
+// The first argument that could not be read, 0 for none.
+fn unread(ram: bool, writes: bool, external: bool) -> usize {
+    if !ram {
+        return RAM;
+    }
+    if !writes {
+        return WRITES;
+    }
+    if external { 0 } else { EXTERNAL }
+}
+
+// Reads the files.
+fn read_files(ram: &mut [u8], writes: &mut [u8], external: &mut [u8]) -> Lengths
+    ensures { λ r. ⌜ Within r (now (ram .entry)) (now (writes .entry)) (now (external .entry)) ⌝ }
+{
+    let first = files::read_argument(RAM, ram);
+    let second = files::read_argument(WRITES, writes);
+    let third = read_external(external);
+    Lengths {
+        unread: unread(first.is_read, second.is_read, third.is_read),
+        ram: first.length,
+        writes: second.length,
+        external: third.length,
+    }
+}
+
+// Writes DOTS, then RECORDS; where RECORDS fails, it is stamped again.
+fn write_painted(height: usize, dots: &[u8], records: &mut [u8]) {
+    if !files::write_argument(DOTS, dots) {
+        files::print_unwritten(DOTS);
+        return;
+    }
+    if !files::write_argument(RECORDS, records) {
+        lists::fill(records, 255);
+        files::write_argument(RECORDS, records);
+        files::print_unwritten(RECORDS);
+        return;
+    }
+    print_painted(height);
+}
+
+// Paints in memory, then writes the files.
+fn paint_and_write(
+    state: State,
+    ram: &[u8],
+    height: usize,
+    dots: &mut [u8],
+    records: &mut [u8],
+    external: &[u8],
+)
+    requires { ⌜ (height ≤ 1024) × (length (now dots) ≡ 753664) × (length (now records) ≡ 4096) ⌝ }
+{
+    let dots_end = 736 * height;
+    let records_end = 4 * height;
+    let painted = paint_by_line(
+        state,
+        ram,
+        height,
+        &mut dots[0..dots_end],
+        &mut records[0..records_end],
+        external,
+    );
+    if painted.refusal != 0 {
+        files::print_refusal(painted.refusal);
+        return;
+    }
+    write_painted(height, &dots[0..dots_end], &mut records[0..records_end]);
+}
+
+// Paints what the files hold, or prints the refusal.
+fn paint_files(
+    ram: &[u8],
+    writes: &[u8],
+    height: usize,
+    dots: &mut [u8],
+    records: &mut [u8],
+    external: &[u8],
+)
+    requires { ⌜ (length (now dots) ≡ 753664) × (length (now records) ≡ 4096) ⌝ }
+{
+    let written = files::apply_writes(writes);
+    let refused = refusal(written.refusal, ram, height, external);
+    if refused != 0 {
+        files::print_refusal(refused);
+        return;
+    }
+    paint_and_write(written.state, ram, height, dots, records, external);
+}
+
+// Reads the files and paints, once RECORDS is stamped.
+fn run_stamped(
+    height: usize,
+    ram: &mut [u8],
+    writes: &mut [u8],
+    dots: &mut [u8],
+    records: &mut [u8],
+    external: &mut [u8],
+)
+    requires { ⌜ Whole (now ram) (now writes) (now dots) (now records) (now external) ⌝ }
+{
+    let read = read_files(ram, writes, external);
+    if read.unread != 0 {
+        files::print_unreadable(read.unread);
+        return;
+    }
+    let ram_end = read.ram;
+    let writes_end = read.writes;
+    let external_end = read.external;
+    if writes_end % 2 == 1 {
+        print_usage();
+        return;
+    }
+    paint_files(
+        &ram[0..ram_end],
+        &writes[0..writes_end],
+        height,
+        dots,
+        records,
+        &external[0..external_end],
+    );
+}
+
+// Stamps RECORDS, then does what the arguments ask.
+fn run_lent(
+    ram: &mut [u8],
+    writes: &mut [u8],
+    dots: &mut [u8],
+    records: &mut [u8],
+    external: &mut [u8],
+)
+    requires { ⌜ Whole (now ram) (now writes) (now dots) (now records) (now external) ⌝ }
+{
+    let count = os::arg_count();
+    if count <= RECORDS {
+        print_usage();
+        return;
+    }
+    let asked = files::number_argument(HEIGHT);
+    if !stamp(lines_stamped(asked), records) {
+        files::print_unwritten(RECORDS);
+        return;
+    }
+    if EXTERNAL + 1 < count {
+        print_usage();
+        return;
+    }
+    let Number::Value(height) = asked else {
+        print_usage();
+        return;
+    };
+    run_stamped(height, ram, writes, dots, records, external);
+}
+
+// Each buffer that is read into holds one byte more than is allowed, so that a longer file shows.
+fn run(
+    ram: &mut [u8; 65537],
+    writes: &mut [u8; 65537],
+    dots: &mut [u8; 753664],
+    records: &mut [u8; 4096],
+    external: &mut [u8; 753665],
+) {
+    run_lent(ram, writes, dots, records, external);
+}
+
+fn main() {
+    let mut ram = [0u8; 65537];
+    let mut writes = [0u8; 65537];
+    let mut dots = [0u8; 753664];
+    let mut records = [0u8; 4096];
+    let mut external = [0u8; 753665];
+    run(
+        &mut ram,
+        &mut writes,
+        &mut dots,
+        &mut records,
+        &mut external,
+    );
+}
