@@ -64,7 +64,29 @@ round-trip s h =
     )
 
 -- the bytes put together from the flags and the twelve bytes of the pairs
-pub bytes-put : (s : State) (f n₀ n₁ a₀ a₁ b₀ b₁ l₀ l₁ c₀ c₁ d₀ d₁ : ℕ) → f ≡ flagsOf s → n₀ ≡ low (s .scan .number) → n₁ ≡ high (s .scan .number) → a₀ ≡ low (s .scan .at .ld1) → a₁ ≡ high (s .scan .at .ld1) → b₀ ≡ low (s .scan .at .ld2) → b₁ ≡ high (s .scan .at .ld2) → l₀ ≡ low (s .scan .left) → l₁ ≡ high (s .scan .left) → c₀ ≡ low (s .scan .block .start .ld1) → c₁ ≡ high (s .scan .block .start .ld1) → d₀ ≡ low (s .scan .block .start .ld2) → d₁ ≡ high (s .scan .block .start .ld2) → s .registers .fixbias ∷ s .registers .border ∷ s .registers .lpl ∷ s .registers .lph ∷ f ∷ 0 ∷ n₀ ∷ n₁ ∷ a₀ ∷ a₁ ∷ b₀ ∷ b₁ ∷ l₀ ∷ l₁ ∷ 0 ∷ 0 ∷ s .scan .block .sc ∷ s .scan .block .mb ∷ s .scan .block .lm ∷ s .scan .block .rm ∷ c₀ ∷ c₁ ∷ d₀ ∷ d₁ ∷ byteAt (s .scan .block .col) 0 ∷ byteAt (s .scan .block .col) 1 ∷ byteAt (s .scan .block .col) 2 ∷ byteAt (s .scan .block .col) 3 ∷ byteAt (s .scan .block .col) 4 ∷ byteAt (s .scan .block .col) 5 ∷ byteAt (s .scan .block .col) 6 ∷ byteAt (s .scan .block .col) 7 ∷ [] ≡ encoded s
+pub bytes-put :
+    (s : State) (f n₀ n₁ a₀ a₁ b₀ b₁ l₀ l₁ c₀ c₁ d₀ d₁ : ℕ) →
+    f ≡ flagsOf s →
+    n₀ ≡ low (s .scan .number) →
+    n₁ ≡ high (s .scan .number) →
+    a₀ ≡ low (s .scan .at .ld1) →
+    a₁ ≡ high (s .scan .at .ld1) →
+    b₀ ≡ low (s .scan .at .ld2) →
+    b₁ ≡ high (s .scan .at .ld2) →
+    l₀ ≡ low (s .scan .left) →
+    l₁ ≡ high (s .scan .left) →
+    c₀ ≡ low (s .scan .block .start .ld1) →
+    c₁ ≡ high (s .scan .block .start .ld1) →
+    d₀ ≡ low (s .scan .block .start .ld2) →
+    d₁ ≡ high (s .scan .block .start .ld2) →
+    s .registers .fixbias ∷ s .registers .border ∷ s .registers .lpl ∷ s .registers .lph
+    ∷ f ∷ 0 ∷ n₀ ∷ n₁ ∷ a₀ ∷ a₁ ∷ b₀ ∷ b₁ ∷ l₀ ∷ l₁ ∷ 0 ∷ 0
+    ∷ s .scan .block .sc ∷ s .scan .block .mb ∷ s .scan .block .lm ∷ s .scan .block .rm
+    ∷ c₀ ∷ c₁ ∷ d₀ ∷ d₁
+    ∷ byteAt (s .scan .block .col) 0 ∷ byteAt (s .scan .block .col) 1 ∷ byteAt (s .scan .block .col) 2
+    ∷ byteAt (s .scan .block .col) 3 ∷ byteAt (s .scan .block .col) 4 ∷ byteAt (s .scan .block .col) 5
+    ∷ byteAt (s .scan .block .col) 6 ∷ byteAt (s .scan .block .col) 7 ∷ []
+    ≡ encoded s
 unfolding encoded
 bytes-put s f n₀ n₁ a₀ a₁ b₀ b₁ l₀ l₁ c₀ c₁ d₀ d₁ ef en₀ en₁ ea₀ ea₁ eb₀ eb₁ el₀ el₁ ec₀ ec₁ ed₀ ed₁ =
     rw (ef, en₀, en₁, ea₀, ea₁, eb₀, eb₁, el₀, el₁, ec₀, ec₁, ed₀, ed₁)

@@ -1,5 +1,5 @@
 // The library for C, Rust and Python: the chip's state is 32 bytes, and every call is an exported function that answers a
-// number. include/nick.h declares them.
+// number. include/nick.h declares them. A state of another length than 32 is refusal 3.
 ghost use mathlib.Core.Path.{_≡_};
 ghost use lib.ListN.{length};
 ghost use Rattle.nick.specs.Levels.{levelsOf};
@@ -27,7 +27,7 @@ fn keep(refusal: u8, next: State, state: &mut [u8]) -> u32
     0
 }
 
-// The state before any write. 3 where `state` has another length than 32.
+// The state before any write.
 #[no_mangle]
 pub extern "C" fn nick_fresh(state: &mut [u8]) -> u32
     ensures { λ r. ⌜ Freshens (now (state .entry)) (now (state .exit)) r ⌝ }
@@ -38,7 +38,7 @@ pub extern "C" fn nick_fresh(state: &mut [u8]) -> u32
     keep(0, nick::fresh(), state)
 }
 
-// Writes one register.
+// Writes one register. Of a state of another length the port's own refusal is told first, its number being smaller.
 #[no_mangle]
 pub extern "C" fn nick_write(state: &mut [u8], port: u32, value: u8) -> u32
     ensures { λ r. ⌜ Writes (now (state .entry)) port value (now (state .exit)) r ⌝ }
