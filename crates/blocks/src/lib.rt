@@ -87,21 +87,30 @@ pub fn loaded_number(registers: Registers, scan: Scan) -> u16
     (scan.number + 1) % 4096
 }
 
+// The scan after block `number` is loaded.
+fn load_block(registers: Registers, ram: &[u8], number: u16) -> Scan
+    requires { ⌜ (length (now ram) ≡ 65536) × (number < 4096) ⌝ }
+    ensures { λ r. ⌜ r ≡ loaded registers number (blockAt (now (ram .entry)) number) ⌝ }
+{
+    let block = block_at(ram, number);
+    let at = block.start;
+    let left = 256 - block.sc as u16;
+    Scan {
+        pending: registers.lph / 128 % 2 == 0,
+        block,
+        number,
+        at,
+        left,
+    }
+}
+
 // The scan after a load.
 pub fn load(registers: Registers, ram: &[u8], scan: Scan) -> Scan
     requires { ⌜ (length (now ram) ≡ 65536) × (scan .number < 4096) ⌝ }
     ensures { λ r. ⌜ r ≡ loaded registers (loadedNumber registers scan) (blockAt (now (ram .entry)) (loadedNumber registers scan)) ⌝ }
 {
     let number = loaded_number(registers, scan);
-    let block = block_at(ram, number);
-    let at = block.start;
-    Scan {
-        pending: registers.lph / 128 % 2 == 0,
-        block,
-        number,
-        at,
-        left: 256 - block.sc as u16,
-    }
+    load_block(registers, ram, number)
 }
 
 // The scan of a mode line that goes on.

@@ -17,10 +17,10 @@ font-address-sixteen width ld2 code h =
     let whole : 2 ^ (16 - width) * 2 ^ width ≡ 2 ^ 16 = rw (← pow-add 2 (16 - width) width, sum) in
     rw whole at (digits-lt (mod-lt ld2 (pow-pos (16 - width))) (mod-lt code (pow-pos width)))
 
--- the address as computed from the two powers
-pub font-address-of : (width ld2 code rows characters : ℕ) → rows ≡ 2 ^ (16 - width) → characters ≡ 2 ^ width → ld2 % rows * characters + code % characters ≡ fontAddress width ld2 code
+-- the address as computed from the row and a power
+pub font-address-of : (width ld2 code row characters : ℕ) → row ≡ ld2 % 2 ^ (16 - width) → characters ≡ 2 ^ width → row * characters + code % characters ≡ fontAddress width ld2 code
 unfolding fontAddress
-font-address-of width ld2 code rows characters r h = rw (r, h)
+font-address-of width ld2 code row characters r h = rw (r, h)
 
 -- the steps of every mode are small
 pub steps-small : (m : Mode) (r : Steps) → r ≡ stepsOf m → StepsOf m r

@@ -1,7 +1,7 @@
 // The walk from line parameter block to line parameter block, and the pointers at a slot, with no scanline or slot stepped
 // singly.
 ghost use mathlib.Core.Path.{_≡_};
-ghost use Prim.Native.Nat.{_^_, _<_, _≤_, min};
+ghost use Prim.Native.Nat.{_-_, _^_, _%_, _<_, _≤_, min};
 ghost use lib.ListN.{length};
 ghost use Rattle.lists.specs.Choice.{pick};
 ghost use Rattle.nick.specs.Blocks.{vres};
@@ -223,12 +223,21 @@ fn power(n: u8) -> u32
     1u32 << n
 }
 
+// The row of the font that LD2 stands at, the codes having `width` bits.
+fn font_row(width: u8, ld2: u16) -> u32
+    requires { ⌜ (6 ≤ width) × (width ≤ 8) ⌝ }
+    ensures { λ r. ⌜ r ≡ ld2 % 2 ^ (16 - width) ⌝ }
+{
+    let rows = power(16 - width);
+    ld2 as u32 % rows
+}
+
 // The address of a character's display byte, its code having `width` bits.
 pub fn font_address(width: u8, ld2: u16, code: u8) -> u16
     requires { ⌜ (6 ≤ width) × (width ≤ 8) ⌝ }
     ensures { λ r. ⌜ r ≡ fontAddress width ld2 code ⌝ }
 {
-    let rows = power(16 - width);
+    let row = font_row(width, ld2);
     let characters = power(width);
-    (ld2 as u32 % rows * characters + code as u32 % characters) as u16
+    (row * characters + code as u32 % characters) as u16
 }

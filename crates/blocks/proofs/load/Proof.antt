@@ -1,7 +1,10 @@
--- `blocks::load` puts together what its callees answer.
-use Prim.Native.Nat.{_/_}
-use Rattle.nick.proofs.Bits.{clear-not-set}
-use Rattle.nick.specs.Blocks.{loaded}
+-- `blocks::load`: the block that is loaded is the one with the rule's number.
+use mathlib.Core.Path.{_≡_}
+use mathlib.Core.List.{List}
+use Prim.Native.Nat.{ℕ}
+use Rattle.nick.specs.Blocks.{loaded, blockAt}
+use Rattle.nick.specs.declared.Registers.{Registers}
+use Rattle.nick.specs.declared.Scan.{Scan}
 use borrow.Author.Needs.{needs}
 use Rattle.blocks.proofs.load.Statement.{statement}
 use Rattle.blocks.proofs.load.Tie as tie
@@ -9,19 +12,14 @@ use Rattle.blocks.proofs.load.Tie as tie
 loaded-number-requires : tie.Need-loaded-number-requires
 loaded-number-requires c κs = search needs
 
-block-at-requires : tie.Need-block-at-requires
-block-at-requires c κs = search needs
+load-block-requires : tie.Need-load-block-requires
+load-block-requires c κs = search needs
 
-cast-t10 : tie.Need-cast-t10
-cast-t10 c = search needs
-
-sub-t11 : tie.Need-sub-t11
-sub-t11 c = search needs
+with-number : (g : Registers) (ram : List ℕ) (n m : ℕ) (r : Scan) → r ≡ loaded g n (blockAt ram n) → n ≡ m → r ≡ loaded g m (blockAt ram m)
+with-number g ram n m r e h = rw (← h) e
 
 returns : tie.Need-returns
-unfolding loaded
-returns c =
-    rw (c .before .before .before .block-at .ensures, c .before .before .before .before .loaded-number .ensures .0, clear-not-set (c .before .before .before .before .before .before .args .registers .lph / 128))
+returns c = with-number _ _ _ _ _ (c .load-block .ensures) (c .before .loaded-number .ensures .0)
 
 pub load-spec : {M : Type 1} → statement M
-load-spec = tie.close (tie.spec loaded-number-requires block-at-requires cast-t10 sub-t11 returns)
+load-spec = tie.close (tie.spec loaded-number-requires load-block-requires returns)

@@ -1,4 +1,4 @@
--- `walk::font_address`: both powers are the rule's, and the address has 16 bits, over the width.
+-- `walk::font_address`: row and power are the rule's, and the address has 16 bits, over the width.
 use mathlib.Core.Path.{_≡_}
 use Prim.Native.Nat.{_+_, _*_, _%_, _<_}
 use native.Mathlib.Omega.{arith}
@@ -8,24 +8,18 @@ use borrow.Author.Needs.{needs}
 use Rattle.walk.proofs.font_address.Statement.{statement}
 use Rattle.walk.proofs.font_address.Tie as tie
 
-sub-power : tie.Need-sub-power
-sub-power c = search needs
+font-row-requires : tie.Need-font-row-requires
+font-row-requires c κs = search needs
 
 power-requires : tie.Need-power-requires
 power-requires c κs = search needs
 
-power-requires-2 : tie.Need-power-requires-2
-power-requires-2 c κs = search needs
-
-rem-result : tie.Need-rem-result
-rem-result c = search needs
-
-same : (c : tie.After-power2) → c .before .before .args .ld2 % c .before .power .result * c .power2 .result + c .before .before .args .code % c .power2 .result ≡ fontAddress (c .before .before .args .width) (c .before .before .args .ld2) (c .before .before .args .code)
+same : (c : tie.After-power) → c .before .font-row .result * c .power .result + c .before .before .args .code % c .power .result ≡ fontAddress (c .before .before .args .width) (c .before .before .args .ld2) (c .before .before .args .code)
 same c =
     let a = c .before .before .args in
-    font-address-of (a .width) (a .ld2) (a .code) (c .before .power .result) (c .power2 .result) (c .before .power .ensures .0) (c .power2 .ensures .0)
+    font-address-of (a .width) (a .ld2) (a .code) (c .before .font-row .result) (c .power .result) (c .before .font-row .ensures) (c .power .ensures .0)
 
-below : (c : tie.After-power2) → fontAddress (c .before .before .args .width) (c .before .before .args .ld2) (c .before .before .args .code) < 65536
+below : (c : tie.After-power) → fontAddress (c .before .before .args .width) (c .before .before .args .ld2) (c .before .before .args .code) < 65536
 below c =
     let a = c .before .before .args in
     font-address-sixteen (a .width) (a .ld2) (a .code) (omega arith)
@@ -33,8 +27,8 @@ below c =
 mul-result : tie.Need-mul-result
 mul-result c = omega (arith, same c, below c)
 
-rem-result-2 : tie.Need-rem-result-2
-rem-result-2 c = search needs
+rem-result : tie.Need-rem-result
+rem-result c = search needs
 
 add-result : tie.Need-add-result
 add-result c = omega (arith, same c, below c)
@@ -49,12 +43,10 @@ pub font-address-spec : {M : Type 1} → statement M
 font-address-spec =
     tie.close
     (tie.spec
-    sub-power
+    font-row-requires
     power-requires
-    power-requires-2
-    rem-result
     mul-result
-    rem-result-2
+    rem-result
     add-result
     cast-result
     returns)
