@@ -11,15 +11,16 @@ use Rattle.lists.specs.Choice.{pick}
 use Rattle.nick.specs.Numbers.{up, byteAt}
 use Rattle.nick.specs.Slots.{PIXEL, ATTR, CH, LPIXEL, modeNumbered, fontAddress}
 use Rattle.nick.specs.Colour.{Colours, two, coloursOf, dotIn}
-use Rattle.nick.specs.External.{dotColour, mixedColour}
-use Rattle.nick.specs.Direct.{colour}
+use Rattle.nick.specs.External.{dotColour}
+use Rattle.nick.specs.Direct.{Answered}
 use Rattle.nick.specs.declared.Registers.{Registers}
 use Rattle.nick.specs.declared.Pointers.{Pointers}
 use Rattle.nick.specs.declared.Block.{Block}
-use Rattle.colour.specs.Cell.{graphicsCell, characterCell, attributeCell, cellPixel}
+use Rattle.nick.specs.declared.Sources.the-variants.{One, Two}
+use Rattle.colour.specs.Cell.{graphicsCell, characterCell, attributeCell}
 use Rattle.colour.specs.declared.Cell.{Cell}
 use Rattle.colour.proofs.Cells.{graphics-pixel, character-pixel, attribute-pixel, sharing-halves}
-use Rattle.direct.specs.Answers.{unfetchedAnswer, graphicsAnswer, activeAnswer}
+use Rattle.direct.specs.Answers.{unfetchedAnswer, cellAnswer, graphicsAnswer, activeAnswer}
 
 -- a dot outside the active slots, by the mode's number
 pub inactive-dot : (n : ℕ) → n < 8 → (g : Registers) (b : Block) (cs : Colours) (bytes : List ℕ) (j e : ℕ) → dotColour g b (dotIn (modeNumbered n) false b cs bytes j) e ≡ pick (eqb n 0) 0 (g .border)
@@ -58,15 +59,15 @@ module _ (g : Registers) (ram : List ℕ) (b : Block) where
   unfolding activeAnswer graphicsAnswer
   lpixel-answer p j e = rw (sharing-halves (coloursOf b) j)
 
-  -- the colour of each kind of display byte, through its cell
-  pub graphics-shown : (a k e r : ℕ) (cell : Cell) → cell ≡ graphicsCell b (byteAt ram a) → r ≡ mixedColour g b (cellPixel cell k) e → colour r (a ∷ []) ≡ graphicsAnswer g ram b a k e
+  -- the dot of each kind of display byte, through its cell
+  pub graphics-shown : (a k e : ℕ) (cell : Cell) (r : Answered) → cell ≡ graphicsCell b (byteAt ram a) → r ≡ cellAnswer g b cell k e (One a) → r ≡ graphicsAnswer g ram b a k e
   unfolding graphicsAnswer
-  graphics-shown a k e r cell hc hr = rw (hr, hc, graphics-pixel b (byteAt ram a) k)
+  graphics-shown a k e cell r hc hr = rw (hr, hc, graphics-pixel b (byteAt ram a) k)
 
-  pub attribute-shown : (p : Pointers) (j e r : ℕ) (cell : Cell) → byteAt ram (p .ld1) < 256 → cell ≡ attributeCell (byteAt ram (p .ld1)) (byteAt ram (p .ld2)) → r ≡ mixedColour g b (cellPixel cell (j / 2)) e → colour r (p .ld1 ∷ p .ld2 ∷ []) ≡ activeAnswer ATTR g ram b p j e
+  pub attribute-shown : (p : Pointers) (j e : ℕ) (cell : Cell) (r : Answered) → byteAt ram (p .ld1) < 256 → cell ≡ attributeCell (byteAt ram (p .ld1)) (byteAt ram (p .ld2)) → r ≡ cellAnswer g b cell (j / 2) e (Two (p .ld1) (p .ld2)) → r ≡ activeAnswer ATTR g ram b p j e
   unfolding activeAnswer
-  attribute-shown p j e r cell h hc hr = rw (hr, hc, attribute-pixel (byteAt ram (p .ld1)) (byteAt ram (p .ld2)) (j / 2) h, sharing-halves two j)
+  attribute-shown p j e cell r h hc hr = rw (hr, hc, attribute-pixel (byteAt ram (p .ld1)) (byteAt ram (p .ld2)) (j / 2) h, sharing-halves two j)
 
-  pub character-shown : (width : ℕ) (p : Pointers) (j e r a : ℕ) (cell : Cell) → a ≡ fontAddress width (p .ld2) (byteAt ram (p .ld1)) → cell ≡ characterCell b (byteAt ram (p .ld1)) (byteAt ram a) → r ≡ mixedColour g b (cellPixel cell (j / 2)) e → colour r (p .ld1 ∷ a ∷ []) ≡ activeAnswer (CH width) g ram b p j e
+  pub character-shown : (width : ℕ) (p : Pointers) (j e a : ℕ) (cell : Cell) (r : Answered) → a ≡ fontAddress width (p .ld2) (byteAt ram (p .ld1)) → cell ≡ characterCell b (byteAt ram (p .ld1)) (byteAt ram a) → r ≡ cellAnswer g b cell (j / 2) e (Two (p .ld1) a) → r ≡ activeAnswer (CH width) g ram b p j e
   unfolding activeAnswer
-  character-shown width p j e r a cell ha hc hr = rw (hr, hc, ha, character-pixel b (byteAt ram (p .ld1)) (byteAt ram (fontAddress width (p .ld2) (byteAt ram (p .ld1)))) (j / 2), sharing-halves (coloursOf b) j)
+  character-shown width p j e a cell r ha hc hr = rw (hr, hc, ha, character-pixel b (byteAt ram (p .ld1)) (byteAt ram (fontAddress width (p .ld2) (byteAt ram (p .ld1)))) (j / 2), sharing-halves (coloursOf b) j)

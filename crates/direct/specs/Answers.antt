@@ -1,4 +1,4 @@
--- What the functions behind the direct answer say of one dot of a slot. Nothing here is a rule of the chip: proofs/Laws.antt
+-- What the functions behind the direct answer say of one dot of a slot. Nothing here is a rule of the chip: proofs/Slots.antt
 -- ties it to the rules.
 use Prim.Native.Nat.{ℕ, suc, _/_, _%_}
 use mathlib.Core.Path.{_≡_}
@@ -13,16 +13,23 @@ use Rattle.nick.specs.Colour.{dotIn, coloursOf, graphicsPixel, pixelsIn, sharin
 use Rattle.nick.specs.External.{dotColour, mixedColour}
 use Rattle.nick.specs.Scanline.{activeAt, pointersAfter, scanAfter}
 use Rattle.nick.specs.Refusals.{pastEnd}
-use Rattle.nick.specs.Direct.{Answered, colour}
+use Rattle.nick.specs.Direct.{Answered, colour, addressesOf}
 use Rattle.nick.specs.declared.Registers.{Registers}
 use Rattle.nick.specs.declared.Pointers.{Pointers}
 use Rattle.nick.specs.declared.Block.{Block}
 use Rattle.nick.specs.declared.Scan.{Scan}
+use Rattle.nick.specs.declared.Sources.{Sources}
+use Rattle.colour.specs.Cell.{cellPixel}
+use Rattle.colour.specs.declared.Cell.{Cell}
 use Rattle.walk.specs.declared.Walked.{Walked}
 
 -- a dot for which nothing is fetched: 0 in VSYNC, else BORDER
 abbrev pub unfetchedAnswer : Registers → ℕ → Answered
 unfetchedAnswer g mode = colour (pick (eqb mode 0) 0 (g .border)) []
+
+-- the dot at an eighth of a display byte that comes from these addresses
+abbrev pub cellAnswer : Registers → Block → Cell → ℕ → ℕ → Sources → Answered
+cellAnswer g b cell eighth e named = colour (mixedColour g b (cellPixel cell eighth) e) (addressesOf named)
 
 -- a dot at an eighth of the one display byte at an address
 unfoldable pub graphicsAnswer : Registers → List ℕ → Block → ℕ → ℕ → ℕ → Answered

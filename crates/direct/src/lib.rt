@@ -7,11 +7,13 @@ ghost use Rattle.nick.specs.Direct.{answered, direct};
 ghost use Rattle.walk.specs.Walks.{Formed};
 ghost use Rattle.direct.specs.Answers.{
   unfetchedAnswer,
+  cellAnswer,
   graphicsAnswer,
   activeAnswer,
   dotAnswer,
   Begins,
 };
+use colour::Cell;
 use nick::Answer;
 use nick::Block;
 use nick::Pointers;
@@ -31,6 +33,22 @@ fn unfetched(registers: Registers, mode: u8) -> Answer
     Answer::Colour(registers.border, Sources::Nothing)
 }
 
+// The dot at an eighth of a display byte, which comes from `sources`.
+fn cell_dot(
+    registers: Registers,
+    block: Block,
+    cell: Cell,
+    eighth: u8,
+    external: u8,
+    sources: Sources,
+) -> Answer
+    requires { ⌜ eighth < 8 ⌝ }
+    ensures { λ r. ⌜ answered r ≡ cellAnswer registers block cell eighth external sources ⌝ }
+{
+    let shown = colour::cell_colour(registers, block, cell, eighth, external);
+    Answer::Colour(shown, sources)
+}
+
 // A dot at an eighth of the one display byte at `address`.
 fn graphics_dot(
     registers: Registers,
@@ -45,8 +63,8 @@ fn graphics_dot(
 {
     let place = address as usize;
     let cell = colour::graphics_cell(block, ram[place]);
-    let shown = colour::cell_colour(registers, block, cell, eighth, external);
-    Answer::Colour(shown, Sources::One(address))
+    let sources = Sources::One(address);
+    cell_dot(registers, block, cell, eighth, external, sources)
 }
 
 // Dot `dot` of an active slot in ATTR.
@@ -64,8 +82,8 @@ fn attribute_dot(
     let first = at.ld1 as usize;
     let second = at.ld2 as usize;
     let cell = colour::attribute_cell(ram[first], ram[second]);
-    let shown = colour::cell_colour(registers, block, cell, dot / 2, external);
-    Answer::Colour(shown, Sources::Two(at.ld1, at.ld2))
+    let sources = Sources::Two(at.ld1, at.ld2);
+    cell_dot(registers, block, cell, dot / 2, external, sources)
 }
 
 // Dot `dot` of an active slot in the character mode whose codes have `width` bits.
@@ -86,8 +104,8 @@ fn character_dot(
     let address = walk::font_address(width, at.ld2, code);
     let second = address as usize;
     let cell = colour::character_cell(block, code, ram[second]);
-    let shown = colour::cell_colour(registers, block, cell, dot / 2, external);
-    Answer::Colour(shown, Sources::Two(at.ld1, address))
+    let sources = Sources::Two(at.ld1, address);
+    cell_dot(registers, block, cell, dot / 2, external, sources)
 }
 
 // Dot `dot` of an active slot, the pointers there being `at`.

@@ -20,13 +20,13 @@ shared-slice-read-attribute-cell-2 c = search needs
 attribute-cell-requires : tie.Need-attribute-cell-requires
 attribute-cell-requires c κs = search needs
 
-cell-colour-requires : tie.Need-cell-colour-requires
-cell-colour-requires c κs = search needs
+cell-dot-requires : tie.Need-cell-dot-requires
+cell-dot-requires c κs = search needs
 
 returns : tie.Need-returns
 returns c =
     let a = c .before .before .before .before .before .before .before .args in
-    attribute-shown (a .registers) (a .ram .now) (a .block) (a .at) (a .dot) (a .external) (c .cell-colour .result) (c .before .attribute-cell .result) (omega (arith, c .before .before .before .before .before .before .shared-slice-known .given (a .at .ld1))) (c .before .attribute-cell .ensures) (c .cell-colour .ensures)
+    attribute-shown (a .registers) (a .ram .now) (a .block) (a .at) (a .dot) (a .external) (c .before .attribute-cell .result) _ (omega (arith, c .before .before .before .before .before .before .shared-slice-known .given (a .at .ld1))) (c .before .attribute-cell .ensures) (c .cell-dot .ensures)
 
 pub attribute-dot-spec : {M : Type 1} → statement M
 attribute-dot-spec =
@@ -37,5 +37,5 @@ attribute-dot-spec =
     shared-slice-read-attribute-cell
     shared-slice-read-attribute-cell-2
     attribute-cell-requires
-    cell-colour-requires
+    cell-dot-requires
     returns)

@@ -22,13 +22,13 @@ shared-slice-read-character-cell c = search needs
 character-cell-requires : tie.Need-character-cell-requires
 character-cell-requires c κs = search needs
 
-cell-colour-requires : tie.Need-cell-colour-requires
-cell-colour-requires c κs = search needs
+cell-dot-requires : tie.Need-cell-dot-requires
+cell-dot-requires c κs = search needs
 
 returns : tie.Need-returns
 returns c =
     let a = c .before .before .before .before .before .before .before .args in
-    character-shown (a .registers) (a .ram .now) (a .block) (a .width) (a .at) (a .dot) (a .external) (c .cell-colour .result) (c .before .before .before .font-address .result) (c .before .character-cell .result) (c .before .before .before .font-address .ensures) (c .before .character-cell .ensures) (c .cell-colour .ensures)
+    character-shown (a .registers) (a .ram .now) (a .block) (a .width) (a .at) (a .dot) (a .external) (c .before .before .before .font-address .result) (c .before .character-cell .result) _ (c .before .before .before .font-address .ensures) (c .before .character-cell .ensures) (c .cell-dot .ensures)
 
 pub character-dot-spec : {M : Type 1} → statement M
 character-dot-spec =
@@ -40,5 +40,5 @@ character-dot-spec =
     cast-second
     shared-slice-read-character-cell
     character-cell-requires
-    cell-colour-requires
+    cell-dot-requires
     returns)

@@ -10,15 +10,15 @@ shared-slice-read-graphics-cell c = search needs
 graphics-cell-requires : tie.Need-graphics-cell-requires
 graphics-cell-requires c κs = search needs
 
-cell-colour-requires : tie.Need-cell-colour-requires
-cell-colour-requires c κs = search needs
+cell-dot-requires : tie.Need-cell-dot-requires
+cell-dot-requires c κs = search needs
 
 returns : tie.Need-returns
 returns c =
     let a = c .before .before .before .before .args in
-    graphics-shown (a .registers) (a .ram .now) (a .block) (a .address) (a .eighth) (a .external) (c .cell-colour .result) (c .before .graphics-cell .result) (c .before .graphics-cell .ensures) (c .cell-colour .ensures)
+    graphics-shown (a .registers) (a .ram .now) (a .block) (a .address) (a .eighth) (a .external) (c .before .graphics-cell .result) _ (c .before .graphics-cell .ensures) (c .cell-dot .ensures)
 
 pub graphics-dot-spec : {M : Type 1} → statement M
 graphics-dot-spec =
     tie.close
-    (tie.spec shared-slice-read-graphics-cell graphics-cell-requires cell-colour-requires returns)
+    (tie.spec shared-slice-read-graphics-cell graphics-cell-requires cell-dot-requires returns)
