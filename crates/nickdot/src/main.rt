@@ -2,6 +2,9 @@
 // nickdot RAM WRITES LINE DOT [EXTERNAL-BYTE]
 ghost use mathlib.Core.Path.{_≡_};
 ghost use lib.ListN.{length};
+ghost use Rattle.nick.specs.Numbers.{byteAt};
+ghost use Rattle.nick.specs.Direct.{answered};
+ghost use Rattle.nickdot.specs.Answers.{answerAfter};
 use files::Number;
 use libc::STDOUT_FILENO;
 use nick::Answer;
@@ -48,15 +51,23 @@ fn print_colour(colour: u8) {
     print_level(b", blue ", levels.blue, b"3\n");
 }
 
+// The byte at an address.
+fn byte_at(ram: &[u8], address: u16) -> u8
+    requires { ⌜ length (now ram) ≡ 65536 ⌝ }
+    ensures { λ r. ⌜ r ≡ byteAt (now (ram .entry)) address ⌝ }
+{
+    let at = address as usize;
+    ram[at]
+}
+
 // Prints an address that the dot comes from, and the byte there.
 fn print_source(ram: &[u8], address: u16)
     requires { ⌜ length (now ram) ≡ 65536 ⌝ }
 {
-    let at = address as usize;
     io::write_all(STDOUT_FILENO, b"from address ");
     io::print_decimal(STDOUT_FILENO, address as u64);
     io::write_all(STDOUT_FILENO, b": ");
-    print_byte(ram[at]);
+    print_byte(byte_at(ram, address));
     io::write_all(STDOUT_FILENO, b"\n");
 }
 
@@ -79,14 +90,20 @@ fn print_sources(ram: &[u8], sources: Sources)
     }
 }
 
-// Prints the direct answer from what the files hold.
-fn answer(ram: &[u8], writes: &[u8], line: usize, dot: usize, external: u8) {
+// The direct answer from the state that the writes leave, or a write's refusal.
+fn answer(ram: &[u8], writes: &[u8], line: usize, dot: usize, external: u8) -> Answer
+    ensures { λ r. ⌜ answered r ≡ answerAfter (now (writes .entry)) (now (ram .entry)) line dot external ⌝ }
+{
     let written = files::apply_writes(writes);
     if written.refusal != 0 {
-        files::print_refusal(written.refusal);
-        return;
+        return Answer::Refused(written.refusal);
     }
-    match direct::dot(written.state, ram, line, dot, external) {
+    direct::dot(written.state, ram, line, dot, external)
+}
+
+// Prints the answer from what the files hold.
+fn print_answer(ram: &[u8], writes: &[u8], line: usize, dot: usize, external: u8) {
+    match answer(ram, writes, line, dot, external) {
         Answer::Refused(refusal) => files::print_refusal(refusal),
         Answer::Colour(colour, sources) => {
             print_colour(colour);
@@ -113,7 +130,7 @@ fn answer_files(line: usize, dot: usize, external: u8, ram: &mut [u8], writes: &
         print_usage();
         return;
     }
-    answer(
+    print_answer(
         &ram[0..ram_end],
         &writes[0..writes_end],
         line,

@@ -2,9 +2,9 @@
 // nicklist RAM WRITES
 ghost use Prim.Native.Nat.{_≤_};
 ghost use lib.ListN.{length as List·length};
+ghost use Rattle.nicklist.specs.Lists.{ListsAfter};
 use libc::STDOUT_FILENO;
 use nick::Listed;
-use nick::Registers;
 
 // The arguments.
 const RAM: usize = 1;
@@ -25,22 +25,23 @@ fn print_text(text: &[u8], length: usize)
     io::write_all(STDOUT_FILENO, &text[0..length]);
 }
 
-// Prints the listing, or the refusal.
-fn print_listing(registers: Registers, ram: &[u8], text: &mut [u8]) {
-    match listing::list(registers, ram, text) {
+// Writes the listing for the registers that the writes leave, and answers its length, or a refusal.
+fn list(ram: &[u8], writes: &[u8], text: &mut [u8]) -> Listed
+    ensures { λ r. ⌜ ListsAfter (now (writes .entry)) (now (ram .entry)) (now (text .entry)) r (now (text .exit)) ⌝ }
+{
+    let written = files::apply_writes(writes);
+    if written.refusal != 0 {
+        return Listed::Refused(written.refusal);
+    }
+    listing::list(written.state.registers, ram, text)
+}
+
+// Prints the listing of what the files hold, or the refusal.
+fn print_listing(ram: &[u8], writes: &[u8], text: &mut [u8]) {
+    match list(ram, writes, text) {
         Listed::Length(length) => print_text(text, length),
         Listed::Refused(refusal) => files::print_refusal(refusal),
     }
-}
-
-// Lists what the files hold.
-fn list(ram: &[u8], writes: &[u8], text: &mut [u8]) {
-    let written = files::apply_writes(writes);
-    if written.refusal != 0 {
-        files::print_refusal(written.refusal);
-        return;
-    }
-    print_listing(written.state.registers, ram, text);
 }
 
 // Reads the files and lists.
@@ -65,7 +66,7 @@ fn run_lent(ram: &mut [u8], writes: &mut [u8], text: &mut [u8]) {
         print_usage();
         return;
     }
-    list(&ram[0..ram_end], &writes[0..writes_end], text);
+    print_listing(&ram[0..ram_end], &writes[0..writes_end], text);
 }
 
 // RAM and WRITES hold one byte more than is allowed, so that a longer file shows. The longest listing has 323,609 bytes.

@@ -1,7 +1,6 @@
 -- `nicklist::print_listing`: a listing that is not refused fits its output.
-use mathlib.Core.Path.{_≡_, sym, _∙_}
 use native.Mathlib.Omega.{arith}
-use Rattle.nicklist.proofs.Accepted.{listing-fits}
+use Rattle.nicklist.proofs.Accepted.{fits-after}
 use borrow.Author.Needs.{needs}
 use Rattle.nicklist.proofs.print_listing.Statement.{statement}
 use Rattle.nicklist.proofs.print_listing.Tie as tie
@@ -14,8 +13,8 @@ enum-known-length c = search needs
 
 print-text-requires : tie.Need-print-text-requires
 print-text-requires c κs =
-    let a = c .before .before .before .before .before .before .before .before .before .before .args in
-    omega (arith, listing-fits (a .registers) (a .ram .now) (a .text .now) _ (sym (c .before .before .length .given .1) ∙ c .before .before .before .before .before .before .list .ensures .answer))
+    let a = c .before .before .before .before .before .before .before .before .before .before .before .args in
+    omega (arith, fits-after (a .writes .now) (a .ram .now) (a .text .now) _ _ _ (c .before .before .before .before .before .before .list .ensures) (c .before .before .length .given .1))
 
 enum-known-refusal : tie.Need-enum-known-refusal
 enum-known-refusal c = search needs
