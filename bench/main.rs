@@ -97,7 +97,7 @@ fn paint_proved(ram: &[u8], frame: &mut Frame) -> Duration {
 
 fn main() {
     println!("mode colours  proved us  second us  ratio");
-    for mode in [1, 2, 3, 4, 5, 7] {
+    for mode in 0..8 {
         for colour_mode in 0..4 {
             let ram = ram(mode, colour_mode);
             let (mut proved, mut second) = (Frame::new(), Frame::new());

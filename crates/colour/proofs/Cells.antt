@@ -1,4 +1,4 @@
--- The pixels of a cell are the rules' pixels. Callers of this crate use these laws alone.
+-- The pixels of a cell are the rules' pixels.
 use mathlib.Core.Path.{_≡_, refl, ap}
 use mathlib.Core.Bool.{Bool, true, false}
 use Prim.Native.Nat.{ℕ, zero, suc, _+_, _-_, _*_, _/_, _%_, _<_}

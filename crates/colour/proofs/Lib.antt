@@ -1,6 +1,6 @@
 pub mod Cells
-mod Weights
+pub mod Weights
 mod Bits
 mod Alternates
-mod Pixels
+pub mod Pixels
 mod External

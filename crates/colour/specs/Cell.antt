@@ -2,9 +2,11 @@
 -- proofs/Cells.antt says that these pixels are the rules'.
 use mathlib.Core.Path.{_≡_}
 use mathlib.Core.Bool.{_&&_}
+use mathlib.Core.List.{List}
 use Prim.Native.Nat.{ℕ, _+_, _/_, _%_, _≤_}
 use lib.Dec.{eqb}
 use Rattle.lists.specs.Choice.{pick, number}
+use Rattle.lists.specs.Tab.{tab}
 use Rattle.nick.specs.Numbers.{bit, isSet}
 use Rattle.nick.specs.Colour.{
   Colours,
@@ -22,7 +24,9 @@ use Rattle.nick.specs.Colour.{
   graphicsAdded,
   graphicsByte,
   characterAdded,
+  paletteColour,
 }
+use Rattle.nick.specs.declared.Registers.{Registers}
 use Rattle.nick.specs.declared.Block.{Block}
 use Rattle.nick.specs.declared.Pixel.{Pixel}
 use Rattle.nick.specs.declared.Pixel.the-variants.{Palette, Direct}
@@ -64,6 +68,10 @@ cellPixel cell at =
 abbrev pub paletteNumber : Pixel → ℕ
 paletteNumber (Palette n) = n
 paletteNumber (Direct c) = 0
+
+-- the sixteen colours of the palette
+unfoldable pub paletteOf : Registers → Block → List ℕ
+paletteOf g b = tab (paletteColour g b) 16
 
 -- 1 where bit k of a margin byte and bit j of another byte are set, else 0
 pub record BothSet (margin k byte j r : ℕ) : Type 0 where

@@ -1,6 +1,7 @@
 // From display byte to colour: pixels, alternate colours, the palette, external colour.
 ghost use mathlib.Core.Path.{_≡_};
 ghost use Prim.Native.Nat.{_<_};
+ghost use lib.ListN.{length};
 ghost use Rattle.nick.specs.Numbers.{bit};
 ghost use Rattle.nick.specs.Colour.{fourIndex, sixteenIndex, paletteColour};
 ghost use Rattle.nick.specs.External.{highIndex, priorityGives, externalWins, mixedColour};
@@ -11,6 +12,7 @@ ghost use Rattle.colour.specs.Cell.{
   attributeCell,
   cellPixel,
   paletteNumber,
+  paletteOf,
 };
 use nick::Block;
 use nick::Pixel;
@@ -26,7 +28,7 @@ pub struct Cell {
 }
 
 // Bit k of a byte, as 0 or 1.
-fn bit_of(byte: u8, k: u8) -> u8
+pub fn bit_of(byte: u8, k: u8) -> u8
     requires { ⌜ k < 8 ⌝ }
     ensures { λ r. ⌜ r ≡ bit k byte ⌝ }
 {
@@ -34,7 +36,7 @@ fn bit_of(byte: u8, k: u8) -> u8
 }
 
 // The palette number of pixel k in four colours.
-fn four_index(byte: u8, k: u8) -> u8
+pub fn four_index(byte: u8, k: u8) -> u8
     requires { ⌜ k < 4 ⌝ }
     ensures { λ r. ⌜ r ≡ fourIndex byte k ⌝ }
 {
@@ -44,7 +46,7 @@ fn four_index(byte: u8, k: u8) -> u8
 }
 
 // The palette number of pixel k in sixteen colours.
-fn sixteen_index(byte: u8, k: u8) -> u8
+pub fn sixteen_index(byte: u8, k: u8) -> u8
     requires { ⌜ k < 2 ⌝ }
     ensures { λ r. ⌜ r ≡ sixteenIndex byte k ⌝ }
 {
@@ -136,6 +138,18 @@ pub fn palette_colour(registers: Registers, block: Block, n: u8) -> u8
         block.col[i]
     } else {
         8 * (registers.fixbias % 32) + (n - 8)
+    }
+}
+
+// Writes the sixteen colours of the palette.
+pub fn put_palette(registers: Registers, block: Block, out: &mut [u8])
+    requires { ⌜ length (now out) ≡ 16 ⌝ }
+    ensures { λ r. ⌜ now (out .exit) ≡ paletteOf registers block ⌝ }
+{
+    let mut n = 0;
+    while n < 16 {
+        out[n] = palette_colour(registers, block, n as u8);
+        n += 1;
     }
 }
 

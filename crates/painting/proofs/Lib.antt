@@ -1,3 +1,4 @@
 pub mod DotSlots
 pub mod Scanlines
 pub mod FrameLines
+pub mod Idle

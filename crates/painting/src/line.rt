@@ -5,6 +5,7 @@ ghost use lib.ListN.{length};
 ghost use Rattle.lists.specs.Choice.{pick};
 ghost use Rattle.nick.specs.Slots.{modeOf, linePointers};
 ghost use mathlib.Core.List.{_∷_, []};
+ghost use Rattle.colour.specs.Cell.{paletteOf};
 ghost use Rattle.painting.specs.Lines.{NextSlot, Slots, Line};
 use crate::record::flag_byte;
 use crate::record::slots_byte;
@@ -20,6 +21,7 @@ use slots::paint_slot;
 // Paints dot slot `n` into its part of the scanline, and counts its fetches.
 fn next_slot(
     registers: Registers,
+    palette: &[u8],
     ram: &[u8],
     block: Block,
     n: usize,
@@ -28,13 +30,23 @@ fn next_slot(
     external: &[u8],
     line: usize,
 ) -> Slot
-    requires { ⌜ (length (now ram) ≡ 65536) × (n < 46) × (length (now out) ≡ 736) × (line ≤ 752928) × (slot .fetched ≤ 2 * n) ⌝ }
+    requires { ⌜ (now palette ≡ paletteOf registers block) × (length (now ram) ≡ 65536) × (n < 46) × (length (now out) ≡ 736) × (line ≤ 752928) × (slot .fetched ≤ 2 * n) ⌝ }
     ensures { λ r. ⌜ NextSlot registers (now (ram .entry)) block n slot (now (external .entry)) line (now (out .entry)) (now (out .exit)) r ⌝ }
 {
     let a = 16 * n;
     let e = a + 16;
     let at = slot.at;
-    let next = paint_slot(registers, ram, block, n, at, &mut out[a..e], external, line);
+    let next = paint_slot(
+        registers,
+        palette,
+        ram,
+        block,
+        n,
+        at,
+        &mut out[a..e],
+        external,
+        line,
+    );
     let at = next.at;
     Slot {
         at,
@@ -42,7 +54,31 @@ fn next_slot(
     }
 }
 
-// Paints the 46 dot slots of a scanline that has begun.
+// Paints the 46 dot slots of a scanline that has begun, with its palette.
+fn slots_in_order(
+    registers: Registers,
+    palette: &[u8],
+    ram: &[u8],
+    begun: Scan,
+    out: &mut [u8],
+    external: &[u8],
+    line: usize,
+) -> Slot
+    requires { ⌜ (now palette ≡ paletteOf registers (begun .block)) × (length (now ram) ≡ 65536) × (length (now out) ≡ 736) × (line ≤ 752928) ⌝ }
+    ensures { λ r. ⌜ Slots registers (now (ram .entry)) begun (now (external .entry)) line (now (out .exit)) r ⌝ }
+{
+    let block = begun.block;
+    let at = begun.at;
+    let mut slot = Slot { at, fetched: 0 };
+    let mut n = 0;
+    while n < 46 {
+        slot = next_slot(registers, palette, ram, block, n, slot, out, external, line);
+        n += 1;
+    }
+    slot
+}
+
+// Paints the 46 dot slots of a scanline that has begun; where no slot fetches, all at once.
 fn paint_slots(
     registers: Registers,
     ram: &[u8],
@@ -55,14 +91,14 @@ fn paint_slots(
     ensures { λ r. ⌜ Slots registers (now (ram .entry)) begun (now (external .entry)) line (now (out .exit)) r ⌝ }
 {
     let block = begun.block;
-    let at = begun.at;
-    let mut slot = Slot { at, fetched: 0 };
-    let mut n = 0;
-    while n < 46 {
-        slot = next_slot(registers, ram, block, n, slot, out, external, line);
-        n += 1;
+    if slots_byte(block) == 0 {
+        lists::fill(out, slots::outside(registers, block));
+        let at = begun.at;
+        return Slot { at, fetched: 0 };
     }
-    slot
+    let mut palette = [0u8; 16];
+    colour::put_palette(registers, block, &mut palette);
+    slots_in_order(registers, &palette, ram, begun, out, external, line)
 }
 
 // The pointers after a scanline's slots: LD2 of a character mode goes up.

@@ -1,1 +1,3 @@
-pub mod Active
+pub mod Runs
+pub mod CellRuns
+pub mod Slots

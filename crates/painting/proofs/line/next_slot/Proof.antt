@@ -24,8 +24,8 @@ part-paint-slot-end c = search needs
 paint-slot-requires : tie.Need-paint-slot-requires
 paint-slot-requires c κs = search needs
 
-add-t18 : tie.Need-add-t18
-add-t18 c = search needs
+add-t19 : tie.Need-add-t19
+add-t19 c = search needs
 
 same-length : tie.Need-same-length
 same-length c = search needs
@@ -33,7 +33,7 @@ same-length c = search needs
 returns : tie.Need-returns
 returns c =
     let e = c .before .before .before .before .before .paint-slot .ensures in
-    let n = c .before .before .before .before .before .before .before .before .before .before .before .args .n in
+    let n = c .before .before .before .before .before .before .before .before .before .before .before .before .args .n in
     let size : 16 * n + 16 - 16 * n ≡ 16 = omega arith in
     record {
       dots = rw (size, e .dots);
@@ -52,6 +52,6 @@ next-slot-spec =
     part-paint-slot-start
     part-paint-slot-end
     paint-slot-requires
-    add-t18
+    add-t19
     same-length
     returns)

@@ -1,84 +1,68 @@
--- `painting::line::paint_slots`: after each turn the slots passed are painted, and the rest of the scanline is as it was.
-use mathlib.Core.Path.{_≡_, refl, sym, ap, _∙_}
-use mathlib.Core.List.{_++_}
-use Prim.Native.Nat.{ℕ, suc, _+_, _-_, _*_, _≤_}
-use native.Mathlib.Numerals.{add-one}
+-- `painting::line::paint_slots`: where byte 3 of the record is 0, the scanline is plain.
+use mathlib.Core.Path.{_≡_, sym, _∙_}
+use Prim.Native.Nat.{ℕ, _+_}
 use native.Mathlib.Omega.{arith}
-use lib.ListN.{length, drop, length-append}
 use Rattle.nick.specs.Numbers.{byteAt}
-use Rattle.nick.specs.Scanline.{activeAt, pastSlot, pointersAfter, slotAddresses, slotsFetched, slotsDots, begunFetches}
-use Rattle.painting.specs.Lines.{slotsEnd}
-use Rattle.painting.proofs.DotSlots.{slot-more, slots-all, fetched-more}
+use Rattle.nick.specs.Record.{fetchingSlots}
+use Rattle.painting.proofs.Idle.{idle-dots, idle-at, idle-fetches}
 use borrow.Author.Needs.{needs}
 use Rattle.painting.proofs.line.paint_slots.Statement.{statement}
 use Rattle.painting.proofs.line.paint_slots.Tie as tie
 
-abbrev Inv-loop : tie.InvT-loop
-Inv-loop registers ram out₀ external line block slot₀ n₀ out slot n =
-    (n ≤ 46)
-    × (length out ≡ length out₀)
-    × (out ≡ slotsDots registers ram block n (slot₀ .at) (λ x. byteAt external (line + x)) ++ drop (16 * n) out₀)
-    × (slot .at ≡ pointersAfter block n (slot₀ .at))
-    × (slot .fetched ≡ length (slotsFetched ram block n (slot₀ .at)))
-    × (slot .fetched ≤ 2 * n)
+slots-byte-requires : tie.Need-slots-byte-requires
+slots-byte-requires c κs = search needs
 
-abbrev μ-loop : tie.MeasureT-loop
-μ-loop registers ram out₀ external line block slot₀ n₀ out slot n = 46 - n
+outside-requires : tie.Need-outside-requires
+outside-requires c κs = search needs
 
-loop-holds : tie.Need-loop-holds Inv-loop μ-loop
-loop-holds c = search needs
+fill-requires : tie.Need-fill-requires
+fill-requires c κs = search needs
 
-next-slot-requires : tie.Need-next-slot-requires Inv-loop μ-loop
-next-slot-requires c κs = search needs
-
-add-n : tie.Need-add-n Inv-loop μ-loop
-add-n c = search needs
-
-loop-less : tie.Need-loop-less Inv-loop μ-loop
-loop-less c = search needs
-
-loop-again : tie.Need-loop-again Inv-loop μ-loop
-loop-again c =
-    let n = c .before .before .before .before .before .loop .n in
-    let b = c .before .before .before .before .before .before .before .before .before .before .before .args .begun .block in
-    let p = c .before .before .before .before .before .before .before .before .before .before .before .args .begun .at in
-    let ram = c .before .before .before .before .before .before .before .before .before .before .before .args .ram .now in
-    let e = c .before .before .next-slot .ensures in
-    let inv = c .before .before .before .before .before .loop .inv in (
-      omega arith,
-      c .before .out .given ∙ inv .1,
-      e .dots ∙ slot-more (c .before .before .before .before .before .before .before .before .before .before .before .args .registers) ram (c .before .before .before .before .before .before .before .before .before .before .before .args .begun) _ n (c .before .before .before .before .before .loop .slot .at) (c .before .before .before .before .before .before .before .before .before .before .before .args .out .now) (c .before .before .before .before .before .loop .out) (inv .2) (inv .3),
-      rw (add-one n) (e .at ∙ ap (pastSlot (activeAt b n) b) (inv .3)),
-      e .fetched ∙ fetched-more ram b n p (c .before .before .before .before .before .loop .slot .at) (c .before .before .before .before .before .loop .slot .fetched) (inv .3) (inv .4),
-      omega (arith, e .few),
-    )
-
-same-length : tie.Need-same-length Inv-loop μ-loop
+same-length : tie.Need-same-length
 same-length c = search needs
 
-returns : tie.Need-returns Inv-loop μ-loop
-unfolding slotsEnd begunFetches
+returns : tie.Need-returns
 returns c =
-    let all : c .before .loop .n ≡ 46 = omega arith in
-    let begun = c .before .before .before .before .before .before .before .args .begun in
-    let inv = c .before .loop .inv in
+    let a = c .before .before .before .before .before .before .before .before .before .before .before .before .args in
+    let ext : ℕ → ℕ = λ x. byteAt (a .external .now) (a .line + x) in
+    let none : fetchingSlots (a .begun .block) ≡ 0 = sym (c .before .before .before .before .before .before .before .slots-byte .ensures) ∙ c .before .before .before .before .before .before .if1 .taken in
     record {
-      dots = slots-all (c .before .before .before .before .before .before .before .args .registers) (c .before .before .before .before .before .before .before .args .ram .now) begun _ (c .before .loop .n) (c .before .before .before .before .before .before .before .args .out .now) (c .before .loop .out) all (c .before .before .before .before .before .before .before .pre .1) (inv .2);
-      at = inv .3 ∙ ap (λ (n : ℕ). pointersAfter (begun .block) n (begun .at)) all;
-      fetched = inv .4 ∙ ap (λ (n : ℕ). length (slotsFetched (c .before .before .before .before .before .before .before .args .ram .now) (begun .block) n (begun .at))) all;
+      dots = c .before .before .before .fill .ensures ∙ rw (c .before .before .before .before .outside .ensures) (idle-dots (a .registers) (a .ram .now) (a .begun) ext none _ (c .before .before .before .before .before .before .before .before .before .before .before .before .pre .1));
+      at = idle-at (a .registers) (a .ram .now) (a .begun) ext none;
+      fetched = idle-fetches (a .registers) (a .ram .now) (a .begun) ext none;
       few = omega arith;
     }
+
+slice-aggregate-put-palette : tie.Need-slice-aggregate-put-palette
+slice-aggregate-put-palette c = search needs
+
+put-palette-requires : tie.Need-put-palette-requires
+put-palette-requires c κs = search needs
+
+slice-aggregate-slots-in-order : tie.Need-slice-aggregate-slots-in-order
+slice-aggregate-slots-in-order c = search needs
+
+slots-in-order-requires : tie.Need-slots-in-order-requires
+slots-in-order-requires c κs = search needs
+
+same-length-2 : tie.Need-same-length-2
+same-length-2 c = search needs
+
+returns-2 : tie.Need-returns-2
+returns-2 c = search needs
 
 pub paint-slots-spec : {M : Type 1} → statement M
 paint-slots-spec =
     tie.close
     (tie.spec
-    Inv-loop
-    μ-loop
-    loop-holds
-    next-slot-requires
-    add-n
-    loop-less
-    loop-again
+    slots-byte-requires
+    outside-requires
+    fill-requires
     same-length
-    returns)
+    returns
+    slice-aggregate-put-palette
+    put-palette-requires
+    slice-aggregate-slots-in-order
+    slots-in-order-requires
+    same-length-2
+    returns-2)

@@ -1,0 +1,34 @@
+-- `slots::show::show`: with no external input connected the plain dots are the mixed ones.
+use mathlib.Core.Path.{ap, _∙_}
+use mathlib.Core.List.{List}
+use Prim.Native.Nat.{ℕ}
+use lib.ListN.{length}
+use Rattle.slots.proofs.Slots.{palette-length, plain-mixed}
+use borrow.Author.Needs.{needs}
+use Rattle.slots.proofs.show.show.Statement.{statement}
+use Rattle.slots.proofs.show.show.Tie as tie
+
+show-plain-requires : tie.Need-show-plain-requires
+show-plain-requires c κs = (rw (c .before .before .before .before .before .pre .0) (palette-length (c .before .before .before .before .before .args .registers) (c .before .before .before .before .before .args .block)), c .before .before .before .before .before .pre .1)
+
+show-mixed-requires : tie.Need-show-mixed-requires
+show-mixed-requires c κs = search needs
+
+same-length : tie.Need-same-length
+same-length c = search needs
+
+returns : tie.Need-returns
+returns c =
+    let a = c .before .before .before .before .before .before .before .before .args in
+    c .before .before .show-plain .ensures ∙ plain-mixed (a .registers) (a .block) (a .fetched) (a .palette .now) (a .external .now) (a .from) (c .before .before .before .before .before .before .before .before .pre .0) (c .before .before .before .before .if1 .taken)
+
+same-length-2 : tie.Need-same-length-2
+same-length-2 c = search needs
+
+returns-2 : tie.Need-returns-2
+returns-2 c = search needs
+
+pub show-spec : {M : Type 1} → statement M
+show-spec =
+    tie.close
+    (tie.spec show-plain-requires show-mixed-requires same-length returns same-length-2 returns-2)

@@ -1,0 +1,80 @@
+-- `slots::show::show_sixteen`: after k turns the first k pixels are shown.
+use mathlib.Core.Path.{_≡_, refl, _∙_}
+use mathlib.Core.List.{_++_}
+use Prim.Native.Nat.{ℕ, _-_, _*_, _≤_}
+use native.Mathlib.Omega.{arith}
+use lib.ListN.{length, drop}
+use Rattle.colour.proofs.Weights.{sixteen-below}
+use Rattle.slots.specs.Shows.{runs, sixteenShown}
+use Rattle.slots.proofs.Runs.{run-fits, runs-none, runs-more, runs-all}
+use borrow.Author.Needs.{needs}
+use Rattle.slots.proofs.show.show_sixteen.Statement.{statement}
+use Rattle.slots.proofs.show.show_sixteen.Tie as tie
+
+abbrev Inv-loop : tie.InvT-loop
+Inv-loop palette byte run out₀ k₀ out k =
+    (k ≤ 2) × (length out ≡ length out₀) × (out ≡ runs (sixteenShown palette byte) k run ++ drop (k * run) out₀)
+
+abbrev μ-loop : tie.MeasureT-loop
+μ-loop palette byte run out₀ k₀ out k = 2 - k
+
+loop-holds : tie.Need-loop-holds Inv-loop μ-loop
+loop-holds c = (omega arith, refl, runs-none (sixteenShown (c .before .before .args .palette .now) (c .before .before .args .byte)) (c .before .before .args .run) (c .before .before .args .out .now))
+
+sixteen-index-requires : tie.Need-sixteen-index-requires Inv-loop μ-loop
+sixteen-index-requires c κs = search needs
+
+cast-n : tie.Need-cast-n Inv-loop μ-loop
+cast-n c = search needs
+
+cast-show-run : tie.Need-cast-show-run Inv-loop μ-loop
+cast-show-run c = search needs
+
+shared-slice-read-show-run : tie.Need-shared-slice-read-show-run Inv-loop μ-loop
+shared-slice-read-show-run c = rw (c .before .before .sixteen-index .ensures, c .before .before .before .before .before .before .before .pre .0) (sixteen-below (c .before .before .before .before .before .before .before .args .byte) (c .before .before .before .before .loop .k))
+
+show-run-requires : tie.Need-show-run-requires Inv-loop μ-loop
+show-run-requires c κs =
+    let a = c .before .before .before .before .before .before .before .args in
+    rw (c .before .before .before .before .loop .inv .1, c .before .before .before .before .before .before .before .pre .3) (run-fits 2 (c .before .before .before .before .loop .k) (a .run) (c .before .before .before .loop-test .taken))
+
+add-k : tie.Need-add-k Inv-loop μ-loop
+add-k c = search needs
+
+loop-less : tie.Need-loop-less Inv-loop μ-loop
+loop-less c = search needs
+
+loop-again : tie.Need-loop-again Inv-loop μ-loop
+loop-again c =
+    let a = c .before .before .before .before .before .before .before .before .before .before .args in
+    let g = sixteenShown (a .palette .now) (a .byte) in (
+      omega arith,
+      c .before .out .given ∙ c .before .before .before .before .before .before .before .loop .inv .1,
+      c .before .before .show-run .ensures ∙ rw (c .before .before .before .before .before .sixteen-index .ensures) (runs-more g (a .run) (a .out .now) (c .before .before .before .before .before .before .before .loop .out) (c .before .before .before .before .before .before .before .loop .k) (c .before .before .before .before .before .before .before .before .before .before .pre .1) (c .before .before .before .before .before .before .before .loop .inv .2)),
+    )
+
+same-length : tie.Need-same-length Inv-loop μ-loop
+same-length c = search needs
+
+returns : tie.Need-returns Inv-loop μ-loop
+returns c =
+    let a = c .before .before .before .before .args in
+    runs-all (sixteenShown (a .palette .now) (a .byte)) (a .run) (a .out .now) (c .before .loop .out) (c .before .loop .k) 2 (omega arith) (c .before .before .before .before .pre .3) (c .before .loop .inv .2)
+
+pub show-sixteen-spec : {M : Type 1} → statement M
+show-sixteen-spec =
+    tie.close
+    (tie.spec
+    Inv-loop
+    μ-loop
+    loop-holds
+    sixteen-index-requires
+    cast-n
+    cast-show-run
+    shared-slice-read-show-run
+    show-run-requires
+    add-k
+    loop-less
+    loop-again
+    same-length
+    returns)

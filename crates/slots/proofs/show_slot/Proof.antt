@@ -1,0 +1,48 @@
+-- `slots::show_slot`: a slot that fetched nothing is plain.
+use mathlib.Core.Path.{ap, _∙_}
+use Prim.Native.Nat.{ℕ}
+use borrow.Author.Tests.{eq-eqb, ne-eqb}
+use lib.ListN.{replicate}
+use Rattle.slots.specs.Shows.{fetchedDots}
+use borrow.Author.Needs.{needs}
+use Rattle.slots.proofs.show_slot.Statement.{statement}
+use Rattle.slots.proofs.show_slot.Tie as tie
+
+outside-requires : tie.Need-outside-requires
+outside-requires c κs = search needs
+
+fill-requires : tie.Need-fill-requires
+fill-requires c κs = search needs
+
+show-requires : tie.Need-show-requires
+show-requires c κs = search needs
+
+same-length : tie.Need-same-length
+same-length c = search needs
+
+returns : tie.Need-returns
+unfolding fetchedDots
+returns c =
+    let a = c .before .before .before .before .before .before .before .before .before .before .args in
+    rw (eq-eqb (a .fetched .count) 0 (c .before .before .before .before .before .if1 .taken)) (c .before .before .fill .ensures ∙ rw (c .before .before .before .before .before .before .before .before .before .before .pre .1, c .before .before .before .outside .ensures))
+
+same-length-2 : tie.Need-same-length-2
+same-length-2 c = search needs
+
+returns-2 : tie.Need-returns-2
+unfolding fetchedDots
+returns-2 c =
+    let a = c .before .before .before .before .before .before .before .before .before .args in
+    rw (ne-eqb (a .fetched .count) 0 (c .before .before .before .before .if1 .left)) (c .before .before .show .ensures)
+
+pub show-slot-spec : {M : Type 1} → statement M
+show-slot-spec =
+    tie.close
+    (tie.spec
+    outside-requires
+    fill-requires
+    show-requires
+    same-length
+    returns
+    same-length-2
+    returns-2)
