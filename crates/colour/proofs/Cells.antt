@@ -1,6 +1,5 @@
 -- The pixels of a cell are the rules' pixels.
 use mathlib.Core.Path.{_≡_, refl, ap}
-use mathlib.Core.Bool.{Bool, true, false}
 use Prim.Native.Nat.{ℕ, zero, suc, _+_, _-_, _*_, _/_, _%_, _<_}
 use native.Mathlib.Nat.{not-suc-le-zero, le-of-suc-le-suc, mod-lt}
 use native.Mathlib.Omega.{arith}
@@ -26,6 +25,7 @@ use Rattle.nick.specs.Colour.{
   attributePixel,
 }
 use Rattle.nick.specs.declared.Block.{Block}
+use Rattle.nick.proofs.WellFormed.{pick-below}
 use Rattle.nick.specs.declared.Pixel.the-variants.{Palette}
 use Rattle.colour.specs.Cell.{raised, graphicsCell, characterCell, attributeCell, pixelIn, cellPixel, paletteNumber}
 use Rattle.colour.specs.declared.Cell.{Cell}
@@ -89,10 +89,6 @@ sharing-halves two j = omega arith
 sharing-halves four j = omega arith
 sharing-halves sixteen j = omega arith
 sharing-halves all j = omega arith
-
-pick-below : (t : Bool) (x y n : ℕ) → x < n → y < n → pick t x y < n
-pick-below true x y n hx hy = hx
-pick-below false x y n hx hy = hy
 
 in-below : (cs : Colours) (cell : Cell) (k : ℕ) → paletteNumber (pixelIn cs cell k) < 16
 in-below two cell k =

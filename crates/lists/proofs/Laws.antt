@@ -1,12 +1,12 @@
 -- General laws on lists: whole buffers, parts that are lent in a loop, and lists made from a rule for each place.
 use mathlib.Core.Path.{_≡_, refl, sym, ap, _∙_}
 use mathlib.Core.List.{List, [], _∷_, _++_, append-nil, append-assoc}
-use Prim.Native.Nat.{ℕ, zero, suc, _+_, _-_, _*_, _≤_, _<_}
+use Prim.Native.Nat.{ℕ, zero, suc, _+_, _-_, _*_, _≤_, _<_, min}
 use native.Mathlib.Nat.{add-zero, add-suc, not-suc-le-zero}
 use native.Mathlib.Numerals.{add-one}
 use native.Mathlib.Decide.{decLt}
 use native.Mathlib.Omega.{arith}
-use lib.ListN.{length, getD, take, drop, set, replicate, length-append, length-drop, drop-of-length-le, replicate-append-replicate, List·getD-append}
+use lib.ListN.{length, getD, take, drop, set, replicate, length-append, length-take, length-drop, drop-of-length-le, replicate-append-replicate, List·getD-append}
 use lib.Seq.{take-at, drop-at, drop-drop, set-at, drop-cons, getD-at}
 use mathlib.Core.Bool.{Bool, true, false}
 use Rattle.lists.specs.Choice.{number}
@@ -21,6 +21,10 @@ module _ {ℓ} {A : Type ℓ} where
   pub lent : (p d ys : List A) (a k : ℕ) → length p ≡ a → take a (p ++ drop a d) ++ (ys ++ drop k (drop a (p ++ drop a d))) ≡ (p ++ ys) ++ drop (a + k) d
   lent p d ys a k hp =
       rw (take-at p (drop a d) a hp, drop-at p (drop a d) a hp, drop-drop k a d) (sym (append-assoc p ys (drop (a + k) d)))
+
+  -- the length of a part that lies inside
+  pub part-length : (d : List A) (a n : ℕ) → a + n ≤ length d → length (take (a + n - a) (drop a d)) ≡ n
+  part-length d a n h = length-take (a + n - a) (drop a d) ∙ ap (min (a + n - a)) (length-drop a d) ∙ omega arith
 
   -- one place more is stored
   pub stored : (p d : List A) (n : ℕ) (x : A) → length p ≡ n → n < length d → set (p ++ drop n d) n x ≡ (p ++ (x ∷ [])) ++ drop (n + 1) d

@@ -1,12 +1,18 @@
--- What holds of a run that is not refused.
-use mathlib.Core.Path.{_≡_, refl}
-use mathlib.Core.Bool.{Bool, true, false, not}
+-- What holds of a run that is not refused, and of the state that its register writes leave.
+use mathlib.Core.Path.{_≡_, refl, _∙_}
+use mathlib.Core.Bool.{Bool, true, false, not, _||_}
 use mathlib.Core.List.{List}
-use Prim.Native.Nat.{ℕ, _≤_}
-use lib.Dec.{eqb, ltb}
-use borrow.Author.Tests.{ltb-false, eqb-false}
+use Prim.Native.Nat.{ℕ, zero, suc, _+_, _*_, _≤_}
+use native.Mathlib.Omega.{arith}
+use lib.Dec.{eqb, leb, ltb}
+use lib.ListN.{length, getD}
+use borrow.Author.Tests.{ltb-false, eqb-true, eqb-false, not-false, le-leb}
 use Rattle.lists.specs.Choice.{pick}
+use Rattle.nick.specs.Registers.{writeRefusal, writtenRegisters, writtenScan, written, freshState}
 use Rattle.nick.specs.Refusals.{notFull, badHeight, badExternal}
+use Rattle.nick.specs.declared.Scan.{Scan}
+use Rattle.nick.specs.declared.State.{State}
+use Rattle.files.specs.Writes.{writtenNext, writtenAll}
 use Rattle.claims.proofs.Refusals.{not-picked, rest-zero, or-rest}
 use Rattle.nickpaint.specs.Refusals.{runRefusal}
 
@@ -23,3 +29,48 @@ module _ (writes : ℕ) (ram : List ℕ) (h : ℕ) (external : List ℕ) (accept
   height-most =
       let rest = first-zero writes _ accepted in
       ltb-false 1024 h (or-rest (eqb h 0) (ltb 1024 h) (not-picked (badHeight h) 4 _ (rest-zero (notFull ram) 3 _ rest)))
+
+  pub ram-full : length ram ≡ 65536
+  unfolding runRefusal
+  ram-full = eqb-true (length ram) 65536 (not-false (eqb (length ram) 65536) (not-picked (notFull ram) 3 _ (first-zero writes _ accepted)))
+
+  pub external-fits : eqb (length external) 0 || leb (736 * h) (length external) ≡ true
+  unfolding runRefusal
+  external-fits =
+      let rest = rest-zero (badHeight h) 4 _ (rest-zero (notFull ram) 3 _ (first-zero writes _ accepted)) in
+      either (eqb (length external) 0) (not-false _ (not-picked (badExternal h external) 7 _ rest))
+    where
+      either : (t : Bool) → t || eqb (length external) (736 * h) ≡ true → t || leb (736 * h) (length external) ≡ true
+      either true e = refl
+      either false e = rw (eqb-true (length external) (736 * h) e) (le-leb (736 * h) (736 * h) (omega arith))
+
+-- a number of the scan that no register write changes is that of the fresh state
+module _ (f : Scan → ℕ) (same : (c : Scan) (port value : ℕ) → f (writtenScan c port value) ≡ f c) where
+  kept : (s : State) (port value : ℕ) → f (written s port value .scan) ≡ f (s .scan)
+  unfolding written
+  kept s port value = go (eqb (writeRefusal port) 0)
+    where
+      changed : State
+      changed = record {
+        registers = writtenRegisters (s .registers) port value;
+        scan = writtenScan (s .scan) port value;
+        virq = s .virq;
+        sync = s .sync;
+      }
+
+      go : (t : Bool) → f (pick t changed s .scan) ≡ f (s .scan)
+      go true = same (s .scan) port value
+      go false = refl
+
+  written-kept : (bytes : List ℕ) (n : ℕ) → f (writtenAll bytes n .state .scan) ≡ f (freshState .scan)
+  unfolding writtenNext
+  written-kept bytes zero = refl
+  written-kept bytes (suc n) = kept (writtenAll bytes n .state) (getD bytes (2 * n) 0) (getD bytes (2 * n + 1) 0) ∙ written-kept bytes n
+
+pub written-number : (bytes : List ℕ) (n : ℕ) → writtenAll bytes n .state .scan .number ≡ 0
+unfolding writtenScan
+written-number = written-kept (λ c. c .number) (λ c port value. refl)
+
+pub written-left : (bytes : List ℕ) (n : ℕ) → writtenAll bytes n .state .scan .left ≡ 0
+unfolding writtenScan
+written-left = written-kept (λ c. c .left) (λ c port value. refl)

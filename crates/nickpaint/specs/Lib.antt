@@ -1,3 +1,3 @@
+pub mod Arguments
 pub mod Lengths
 pub mod Refusals
-pub mod Lines

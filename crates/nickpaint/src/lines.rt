@@ -2,10 +2,9 @@
 ghost use mathlib.Core.Path.{_≡_};
 ghost use Prim.Native.Nat.{_+_, _*_, _<_, _≤_, min};
 ghost use lib.ListN.{length};
-ghost use Rattle.nickpaint.specs.Lengths.{Sizes};
-ghost use Rattle.nickpaint.specs.Lines.{PaintsNext, PaintsFrame};
+ghost use Rattle.painting.specs.Frames.{NextLine, Frame};
+ghost use Rattle.nickpaint.specs.Lengths.{Sizes, Ready};
 ghost use Rattle.nickpaint.specs.Refusals.{runRefusal};
-use nick::Painted;
 use nick::State;
 
 // The refusal of a run, 0 for none, given that of its register writes: the tests in the order of their numbers. The fresh
@@ -38,17 +37,18 @@ fn smaller(a: usize, b: usize) -> usize
     if a < b { a } else { b }
 }
 
-// Paints line `y` into its parts of the buffers.
+// Paints line `y` into its parts of the buffers; it is never refused.
 fn paint_next(
-    painted: Painted,
+    state: State,
     ram: &[u8],
     y: usize,
     dots: &mut [u8],
     records: &mut [u8],
     external: &[u8],
-) -> Painted
+) -> State
     requires { ⌜ (y < 1024) × (736 * y + 736 ≤ length (now dots)) × (4 * y + 4 ≤ length (now records)) ⌝ }
-    ensures { λ r. ⌜ PaintsNext (painted .state) (now (ram .entry)) y (now (external .entry)) (now (dots .entry)) (now (dots .exit)) (now (records .entry)) (now (records .exit)) r ⌝ }
+    requires { ⌜ Ready state (now ram) (736 * y + 736) (now external) ⌝ }
+    ensures { λ r. ⌜ NextLine state (now (ram .entry)) y (now (external .entry)) (now (dots .entry)) (now (dots .exit)) (now (records .entry)) (now (records .exit)) r ⌝ }
 {
     let a = 736 * y;
     let e = a + 736;
@@ -56,16 +56,17 @@ fn paint_next(
     let f = b + 4;
     let from = smaller(a, external.len());
     let to = smaller(e, external.len());
-    painting::paint_line(
-        painted.state,
+    let painted = painting::paint_line(
+        state,
         ram,
         &mut dots[a..e],
         &mut records[b..f],
         &external[from..to],
-    )
+    );
+    painted.state
 }
 
-// Paints all lines, or those before the first that is refused.
+// Paints all lines of a run that is not refused.
 pub fn paint_by_line(
     state: State,
     ram: &[u8],
@@ -73,18 +74,16 @@ pub fn paint_by_line(
     dots: &mut [u8],
     records: &mut [u8],
     external: &[u8],
-) -> Painted
+) -> State
     requires { ⌜ Sizes height (now dots) (now records) ⌝ }
-    ensures { λ r. ⌜ PaintsFrame state (now (ram .entry)) height (now (external .entry)) (now (dots .exit)) (now (records .exit)) r ⌝ }
+    requires { ⌜ Ready state (now ram) (736 * height) (now external) ⌝ }
+    ensures { λ r. ⌜ Frame state (now (ram .entry)) height (now (external .entry)) (now (dots .exit)) (now (records .exit)) r ⌝ }
 {
-    let mut painted = Painted { refusal: 0, state };
+    let mut next = state;
     let mut y: usize = 0;
     while y < height {
-        painted = paint_next(painted, ram, y, dots, records, external);
-        if painted.refusal != 0 {
-            return painted;
-        }
+        next = paint_next(next, ram, y, dots, records, external);
         y += 1;
     }
-    painted
+    next
 }

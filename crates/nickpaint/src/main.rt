@@ -7,7 +7,8 @@ mod lines;
 ghost use mathlib.Core.Path.{_≡_};
 ghost use Prim.Native.Nat.{_*_, _≤_};
 ghost use lib.ListN.{length};
-ghost use Rattle.nickpaint.specs.Lengths.{Whole, Within};
+ghost use Rattle.nickpaint.specs.Arguments.{linesStamped, firstUnread};
+ghost use Rattle.nickpaint.specs.Lengths.{Whole, Within, Ready};
 use files::Number;
 use libc::STDOUT_FILENO;
 use lines::paint_by_line;
@@ -50,7 +51,7 @@ fn print_painted(height: usize) {
 
 // The lines to stamp: those asked for, but at least one and at most 1,024.
 fn lines_stamped(height: Number) -> usize
-    ensures { λ r. ⌜ r ≤ 1024 ⌝ }
+    ensures { λ r. ⌜ (r ≡ linesStamped height) × (r ≤ 1024) ⌝ }
 {
     let Number::Value(n) = height else {
         return 1;
@@ -87,14 +88,16 @@ fn read_external(external: &mut [u8]) -> files::Contents
 }
 
 // The first argument that could not be read, 0 for none.
-fn unread(ram: bool, writes: bool, external: bool) -> usize {
-    if !ram {
-        return RAM;
-    }
-    if !writes {
+fn unread(ram: bool, writes: bool, external: bool) -> usize
+    ensures { λ r. ⌜ r ≡ firstUnread «ram» «writes» «external» ⌝ }
+{
+    if ram {
+        if writes {
+            return if external { 0 } else { EXTERNAL };
+        }
         return WRITES;
     }
-    if external { 0 } else { EXTERNAL }
+    RAM
 }
 
 // Reads the files.
@@ -137,10 +140,11 @@ fn paint_and_write(
     external: &[u8],
 )
     requires { ⌜ (height ≤ 1024) × (length (now dots) ≡ 753664) × (length (now records) ≡ 4096) ⌝ }
+    requires { ⌜ Ready state (now ram) (736 * height) (now external) ⌝ }
 {
     let dots_end = 736 * height;
     let records_end = 4 * height;
-    let painted = paint_by_line(
+    paint_by_line(
         state,
         ram,
         height,
@@ -148,10 +152,6 @@ fn paint_and_write(
         &mut records[0..records_end],
         external,
     );
-    if painted.refusal != 0 {
-        files::print_refusal(painted.refusal);
-        return;
-    }
     write_painted(height, &dots[0..dots_end], &mut records[0..records_end]);
 }
 

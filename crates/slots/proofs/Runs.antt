@@ -5,8 +5,7 @@ use Prim.Native.Nat.{ℕ, _+_, _*_, _/_, _<_, _≤_}
 use native.Mathlib.Nat.{add-zero, zero-mul, suc-mul, mul-le-mul-right, mul-add-div-right, div-eq-of-lt}
 use native.Mathlib.Numerals.{add-one}
 use native.Mathlib.Omega.{arith}
-use lib.ListN.{length, take, drop, replicate, length-drop}
-use lib.Seq.{length-take-le}
+use lib.ListN.{length, take, drop, replicate}
 use Rattle.lists.specs.Tab.{tab}
 use Rattle.lists.proofs.Laws.{front-all, lent, length-tab, tab-same, tab-append, tab-one}
 use Rattle.slots.specs.Shows.{runs}
@@ -48,7 +47,3 @@ module _ (g : ℕ → ℕ) (run : ℕ) where
   pub runs-none : (d : List ℕ) → d ≡ runs g 0 run ++ drop (0 * run) d
   unfolding runs
   runs-none d = rw (zero-mul run) refl
-
--- the length of a part that lies inside
-pub part-length : (a n : ℕ) (d : List ℕ) → a + n ≤ length d → length (take n (drop a d)) ≡ n
-part-length a n d h = length-take-le n (drop a d) (rw (length-drop a d) (omega arith))

@@ -1,7 +1,9 @@
--- `nickpaint::paint_files`: a run that is not refused has at most 1,024 lines.
+-- `nickpaint::paint_files`: a run that is not refused is ready to be painted.
 use mathlib.Core.Path.{_≡_, sym, _∙_}
+use Prim.Native.Nat.{_/_}
 use native.Mathlib.Omega.{arith}
-use Rattle.nickpaint.proofs.Accepted.{height-most}
+use lib.ListN.{length}
+use Rattle.nickpaint.proofs.Accepted.{height-most, ram-full, external-fits, written-number, written-left}
 use borrow.Author.Needs.{needs}
 use Rattle.nickpaint.proofs.paint_files.Statement.{statement}
 use Rattle.nickpaint.proofs.paint_files.Tie as tie
@@ -20,10 +22,19 @@ returns c = search needs
 
 paint-and-write-requires : tie.Need-paint-and-write-requires
 paint-and-write-requires c κs =
-    let a = c .before .before .before .before .before .before .before .before .before .before .args in (
-      height-most (c .before .before .before .before .apply-writes .result .refusal) (a .ram .now) (a .height) (a .external .now) (omega (arith, c .before .before .before .refusal .ensures, c .before .before .if1 .left)),
-      search needs,
-      search needs,
+    let a = c .before .before .before .before .before .before .before .before .before .before .args in
+    let w = c .before .before .before .before .apply-writes .result in
+    let n = length (a .writes .now) / 2 in
+    let accepted = sym (c .before .before .before .refusal .ensures) ∙ c .before .before .if1 .left in
+    let number : w .state .scan .number ≡ 0 = rw (c .before .before .before .before .apply-writes .ensures) (written-number (a .writes .now) n) in
+    let left : w .state .scan .left ≡ 0 = rw (c .before .before .before .before .apply-writes .ensures) (written-left (a .writes .now) n) in (
+      (height-most (w .refusal) (a .ram .now) (a .height) (a .external .now) accepted, search needs, search needs),
+      record {
+        number = omega (arith, number);
+        left = omega (arith, left);
+        full = ram-full (w .refusal) (a .ram .now) (a .height) (a .external .now) accepted;
+        fits = external-fits (w .refusal) (a .ram .now) (a .height) (a .external .now) accepted;
+      },
     )
 
 same-length : tie.Need-same-length

@@ -1,8 +1,12 @@
--- `nickpaint::lines::paint_next`: the parts that were lent come back with the line's dots and record.
-use mathlib.Core.Path.{_≡_}
-use Prim.Native.Nat.{_+_, _-_, _*_}
+-- `nickpaint::lines::paint_next`: the line is accepted, and the parts that were lent come back with its dots and record.
+use mathlib.Core.Path.{_≡_, _∙_}
+use Prim.Native.Nat.{_+_, _-_, _*_, _<_}
 use native.Mathlib.Omega.{arith}
-use Rattle.nickpaint.proofs.OwnLine.{own-line, line-dots, line-record, line-state}
+use lib.ListN.{take, drop}
+use Rattle.lists.proofs.Laws.{part-length}
+use Rattle.claims.proofs.Paintings.{refusal-is}
+use Rattle.painting.proofs.FrameLines.{next-formed}
+use Rattle.nickpaint.proofs.OwnLine.{own-line, part-fits, line-accepted, line-dots, line-record, line-state}
 use borrow.Author.Needs.{needs}
 use Rattle.nickpaint.proofs.lines.paint_next.Statement.{statement}
 use Rattle.nickpaint.proofs.lines.paint_next.Tie as tie
@@ -63,22 +67,37 @@ same-length-2 c = search needs
 
 returns : tie.Need-returns
 returns c =
-    let a = c .before .before .before .before .before .before .before .before .before .before .before .before .before .before .args in
-    let s = a .painted .state in
+    let a = c .before .before .before .before .before .before .before .before .before .before .before .before .before .before .before .args in
+    let s = a .state in
     let y = a .y in
-    let e = c .before .before .before .before .paint-line .ensures in
+    let from = c .before .before .before .before .before .before .before .before .before .before .smaller .result in
+    let to = c .before .before .before .before .before .before .before .before .before .smaller2 .result in
+    let ready = c .before .before .before .before .before .before .before .before .before .before .before .before .before .before .before .pre .1 in
+    let d = take (736 * y + 736 - 736 * y) (drop (736 * y) (a .dots .now)) in
+    let k = take (4 * y + 4 - 4 * y) (drop (4 * y) (a .records .now)) in
+    let part = take (to - from) (drop from (a .external .now)) in
+    let e = c .before .before .before .before .before .paint-line .ensures in
+    let low : s .registers .lpl < 256 = omega (arith, c .before .before .before .before .before .before .before .before .before .before .before .before .before .before .before .good) in
+    let accepted =
+    e .refusal
+    ∙ refusal-is s (a .ram .now) 1 d k part
+    ∙ line-accepted s (a .ram .now) d k part low (ready .number) (ready .left) (ready .full)
+    (part-length (a .dots .now) (736 * y) 736 (c .before .before .before .before .before .before .before .before .before .before .before .before .before .before .before .pre .0 .1)) (part-length (a .records .now) (4 * y) 4 (c .before .before .before .before .before .before .before .before .before .before .before .before .before .before .before .pre .0 .2))
+    (part-fits (a .external .now) y from to (c .before .before .before .before .before .before .before .before .before .before .smaller .ensures) (c .before .before .before .before .before .before .before .before .before .smaller2 .ensures) (ready .fits)) in
+    let formed = next-formed (a .ram .now) s low (ready .number) (ready .left) in
+    let state = line-state _ _ _ _ _ _ _ _ e accepted in
     let dots-size : 736 * y + 736 - 736 * y ≡ 736 = omega arith in
     let record-size : 4 * y + 4 - 4 * y ≡ 4 = omega arith in
     record {
-      line = λ accepted. record {
-        dots = rw (
-          dots-size,
-          line-dots _ _ _ _ _ _ _ _ e accepted,
-          own-line (s .registers) (a .ram .now) (s .scan) (a .external .now) y (c .before .before .before .before .before .before .before .before .before .smaller .result) (c .before .before .before .before .before .before .before .before .smaller2 .result) (c .before .before .before .before .before .before .before .before .before .smaller .ensures) (c .before .before .before .before .before .before .before .before .smaller2 .ensures),
-        );
-        records = rw (record-size, line-record _ _ _ _ _ _ _ _ e accepted);
-        state = line-state _ _ _ _ _ _ _ _ e accepted;
-      };
+      dots = rw (
+        dots-size,
+        line-dots _ _ _ _ _ _ _ _ e accepted,
+        own-line (s .registers) (a .ram .now) (s .scan) (a .external .now) y from to (c .before .before .before .before .before .before .before .before .before .before .smaller .ensures) (c .before .before .before .before .before .before .before .before .before .smaller2 .ensures),
+      );
+      records = rw (record-size, line-record _ _ _ _ _ _ _ _ e accepted);
+      state = state;
+      number = rw state (formed .0);
+      left = rw state (formed .1);
     }
 
 pub paint-next-spec : {M : Type 1} → statement M

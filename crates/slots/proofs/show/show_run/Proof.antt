@@ -2,7 +2,7 @@
 use mathlib.Core.Path.{_≡_}
 use Prim.Native.Nat.{_+_, _-_, _*_}
 use native.Mathlib.Omega.{arith}
-use Rattle.slots.proofs.Runs.{part-length}
+use Rattle.lists.proofs.Laws.{part-length}
 use borrow.Author.Needs.{needs}
 use Rattle.slots.proofs.show.show_run.Statement.{statement}
 use Rattle.slots.proofs.show.show_run.Tie as tie
@@ -32,7 +32,7 @@ returns : tie.Need-returns
 returns c =
     let a = c .before .before .before .before .before .args in
     let size : a .k * a .run + a .run - a .k * a .run ≡ a .run = omega arith in
-    rw (c .before .before .fill .ensures, size, part-length (a .k * a .run) (a .run) (a .out .now) (c .before .before .before .before .before .pre))
+    rw (c .before .before .fill .ensures, part-length (a .out .now) (a .k * a .run) (a .run) (c .before .before .before .before .before .pre), size)
 
 pub show-run-spec : {M : Type 1} → statement M
 show-run-spec =
