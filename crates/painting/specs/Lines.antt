@@ -1,31 +1,17 @@
 -- What the painting of a scanline and its parts answer, as equations with the rules.
 use Prim.Native.Nat.{ℕ, _+_, _*_, _≤_}
 use mathlib.Core.Path.{_≡_}
-use mathlib.Core.Bool.{Bool}
 use mathlib.Core.List.{List, _++_}
 use lib.ListN.{length, take, drop}
-use Rattle.lists.specs.Choice.{number}
 use Rattle.nick.specs.Numbers.{byteAt}
 use Rattle.nick.specs.Scanline.{activeAt, pastSlot, pointersAfter, slotAddresses, slotDots, begunDots, begunFetches, lineDots}
-use Rattle.nick.specs.Sync.{syncAt, lineSync, lineSyncCount}
 use Rattle.nick.specs.Record.{lineRecord, nextState}
 use Rattle.nick.specs.declared.Registers.{Registers}
 use Rattle.nick.specs.declared.Pointers.{Pointers}
 use Rattle.nick.specs.declared.Block.{Block}
 use Rattle.nick.specs.declared.Scan.{Scan}
 use Rattle.nick.specs.declared.State.{State}
-use Rattle.painting.specs.declared.sync.Sync.{Sync}
 use Rattle.slots.specs.declared.Slot.{Slot}
-
--- sync: one slot passed
-pub record SyncStep (b : Block) (slot : ℕ) (s r : Sync) : Type 0 where
-  pub on : r .on ≡ syncAt b slot (s .on)
-  pub count : r .count ≡ s .count + number (syncAt b slot (s .on))
-
--- sync: a whole scanline
-pub record Syncs (b : Block) (on : Bool) (r : Sync) : Type 0 where
-  pub level : r .on ≡ lineSync b on
-  pub slots : r .count ≡ lineSyncCount b on
 
 -- dot slot n painted into its part of the scanline
 pub record NextSlot (g : Registers) (ram : List ℕ) (b : Block) (n : ℕ) (s : Slot) (external : List ℕ) (line : ℕ)

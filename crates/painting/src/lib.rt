@@ -9,8 +9,6 @@ ghost use lib.Dec.{eqb};
 ghost use Rattle.painting.specs.Frames.{Accepted, NextLine, Frame, Paints};
 
 mod line;
-mod record;
-mod sync;
 
 use line::paint_scanline;
 use nick::Painted;

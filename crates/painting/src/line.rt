@@ -7,14 +7,14 @@ ghost use Rattle.nick.specs.Slots.{modeOf, linePointers};
 ghost use mathlib.Core.List.{_∷_, []};
 ghost use Rattle.colour.specs.Cell.{paletteOf};
 ghost use Rattle.painting.specs.Lines.{NextSlot, Slots, Line};
-use crate::record::flag_byte;
-use crate::record::slots_byte;
-use crate::sync::sync_line;
 use nick::Block;
 use nick::Pointers;
 use nick::Registers;
 use nick::Scan;
 use nick::State;
+use records::flag_byte;
+use records::slots_byte;
+use records::sync_line;
 use slots::Slot;
 use slots::paint_slot;
 

@@ -1,6 +1,6 @@
--- `painting::record::falls` is the rule's test.
-use Rattle.painting.proofs.record.falls.Statement.{statement}
-use Rattle.painting.proofs.record.falls.Tie as tie
+-- `records::record::falls` is the rule's test.
+use Rattle.records.proofs.record.falls.Statement.{statement}
+use Rattle.records.proofs.record.falls.Tie as tie
 
 returns : tie.Need-returns
 returns c = rw (c .if1 .taken)

@@ -1,4 +1,4 @@
--- `painting::sync::sync_line`: after each turn the level and the count are the rules' over the slots passed.
+-- `records::sync::sync_line`: after each turn the level and the count are the rules' over the slots passed.
 use mathlib.Core.Path.{_≡_, refl, _∙_, ap, ap₂}
 use Prim.Native.Nat.{ℕ, suc, _+_, _-_, _/_, _%_, _≤_}
 use native.Mathlib.Numerals.{add-one}
@@ -9,8 +9,8 @@ use Rattle.lists.proofs.Laws.{number-le}
 use Rattle.nick.specs.Sync.{syncAt, syncAfter, syncCount, lineSync, lineSyncCount}
 use Rattle.nick.proofs.Modes.{syncs-zero}
 use borrow.Author.Needs.{needs}
-use Rattle.painting.proofs.sync.sync_line.Statement.{statement}
-use Rattle.painting.proofs.sync.sync_line.Tie as tie
+use Rattle.records.proofs.sync.sync_line.Statement.{statement}
+use Rattle.records.proofs.sync.sync_line.Tie as tie
 
 abbrev Inv-loop : tie.InvT-loop
 Inv-loop block on sync₀ slot₀ sync slot =

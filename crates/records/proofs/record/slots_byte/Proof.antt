@@ -1,11 +1,11 @@
--- `painting::record::slots_byte`: the margins' difference where the mode fetches, 0 where they leave nothing.
+-- `records::record::slots_byte`: the margins' difference where the mode fetches, 0 where they leave nothing.
 use Prim.Native.Nat.{_/_, _%_}
 use borrow.Author.Tests.{eq-eqb, ne-eqb}
 use native.Mathlib.Omega.{arith}
 use Rattle.nick.proofs.Modes.{fetches-but}
 use borrow.Author.Needs.{needs}
-use Rattle.painting.proofs.record.slots_byte.Statement.{statement}
-use Rattle.painting.proofs.record.slots_byte.Tie as tie
+use Rattle.records.proofs.record.slots_byte.Statement.{statement}
+use Rattle.records.proofs.record.slots_byte.Tie as tie
 
 returns : tie.Need-returns
 returns c =

@@ -1,7 +1,7 @@
 // Sync through the 57 slots of a scanline.
 ghost use Prim.Native.Nat.{_<_};
 ghost use mathlib.Core.Path.{_≡_};
-ghost use Rattle.painting.specs.Lines.{Syncs, SyncStep};
+ghost use Rattle.records.specs.Syncs.{Syncs, SyncStep};
 use nick::Block;
 
 // The level, and the slots counted at sync level.

@@ -1,11 +1,11 @@
--- `painting::record::flag_byte`: each bit is the rule's, the modes being told by their numbers.
+-- `records::record::flag_byte`: each bit is the rule's, the modes being told by their numbers.
 use Prim.Native.Nat.{_/_, _%_}
 use native.Mathlib.Omega.{arith}
 use Rattle.nick.specs.Record.{flags}
 use Rattle.nick.proofs.Modes.{syncs-zero, unused-six}
 use borrow.Author.Needs.{needs}
-use Rattle.painting.proofs.record.flag_byte.Statement.{statement}
-use Rattle.painting.proofs.record.flag_byte.Tie as tie
+use Rattle.records.proofs.record.flag_byte.Statement.{statement}
+use Rattle.records.proofs.record.flag_byte.Tie as tie
 
 bit-requires : tie.Need-bit-requires
 bit-requires c κs = search needs

@@ -1,11 +1,11 @@
--- `painting::sync::pass_slot`: each return rewrites the rule with the tests that led there.
+-- `records::sync::pass_slot`: each return rewrites the rule with the tests that led there.
 use mathlib.Core.Path.{sym}
 use Prim.Native.Nat.{_%_}
 use native.Mathlib.Nat.{add-zero}
 use borrow.Author.Tests.{eq-eqb, ne-eqb}
 use borrow.Author.Needs.{needs}
-use Rattle.painting.proofs.sync.pass_slot.Statement.{statement}
-use Rattle.painting.proofs.sync.pass_slot.Tie as tie
+use Rattle.records.proofs.sync.pass_slot.Statement.{statement}
+use Rattle.records.proofs.sync.pass_slot.Tie as tie
 
 returns : tie.Need-returns
 returns c =

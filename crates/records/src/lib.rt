@@ -1,0 +1,8 @@
+// The line record's flags and active slots, and sync through a scanline.
+mod record;
+mod sync;
+
+pub use record::flag_byte;
+pub use record::slots_byte;
+pub use sync::Sync;
+pub use sync::sync_line;
