@@ -1,12 +1,8 @@
--- Lengths of the buffers: of the whole ones, of what was read into them, and of the parts that are painted; and what a run that
--- is not refused starts from.
-use Prim.Native.Nat.{ℕ, _*_, _<_, _≤_}
+-- Lengths of the buffers: of the whole ones, and of what was read into them.
+use Prim.Native.Nat.{ℕ, _≤_}
 use mathlib.Core.Path.{_≡_}
-use mathlib.Core.Bool.{true, _||_}
 use mathlib.Core.List.{List}
-use lib.Dec.{eqb, leb}
 use lib.ListN.{length}
-use Rattle.nick.specs.declared.State.{State}
 use Rattle.nickpaint.specs.declared.Lengths.{Lengths}
 
 -- the whole buffers: RAM, register writes, dots, records, external input
@@ -22,16 +18,3 @@ pub record Within (l : Lengths) (m w e : List ℕ) : Type 0 where
   pub ram : l .ram ≤ length m
   pub writes : l .writes ≤ length w
   pub external : l .external ≤ length e
-
--- the buffers of a frame
-pub record Sizes (h : ℕ) (d r : List ℕ) : Type 0 where
-  pub height : h ≤ 1024
-  pub dots : length d ≡ 736 * h
-  pub records : length r ≡ 4 * h
-
--- a well-formed state, a whole RAM, and external input that is empty or has `dots` bytes at least
-pub record Ready (s : State) (ram : List ℕ) (dots : ℕ) (external : List ℕ) : Type 0 where
-  pub number : s .scan .number < 4096
-  pub left : s .scan .left ≤ 256
-  pub full : length ram ≡ 65536
-  pub fits : eqb (length external) 0 || leb dots (length external) ≡ true

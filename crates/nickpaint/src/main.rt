@@ -2,13 +2,12 @@
 // nickpaint RAM WRITES HEIGHT DOTS RECORDS [EXTERNAL]
 //
 // RECORDS is stamped first and written last, so that a run that is refused, fails or is stopped leaves a stamped one.
-mod lines;
-
 ghost use mathlib.Core.Path.{_≡_};
 ghost use Prim.Native.Nat.{_*_, _≤_};
 ghost use lib.ListN.{length};
+ghost use Rattle.lines.specs.Ready.{Ready};
 ghost use Rattle.nickpaint.specs.Arguments.{linesStamped, firstUnread};
-ghost use Rattle.nickpaint.specs.Lengths.{Whole, Within, Ready};
+ghost use Rattle.nickpaint.specs.Lengths.{Whole, Within};
 use files::Number;
 use libc::STDOUT_FILENO;
 use lines::paint_by_line;

@@ -3,7 +3,8 @@ use mathlib.Core.Path.{_≡_, sym, _∙_}
 use Prim.Native.Nat.{_/_}
 use native.Mathlib.Omega.{arith}
 use lib.ListN.{length}
-use Rattle.nickpaint.proofs.Accepted.{height-most, ram-full, external-fits, written-number, written-left}
+use Rattle.lines.proofs.Accepted.{height-most, ram-full, external-fits}
+use Rattle.nickpaint.proofs.Written.{written-number, written-left}
 use borrow.Author.Needs.{needs}
 use Rattle.nickpaint.proofs.paint_files.Statement.{statement}
 use Rattle.nickpaint.proofs.paint_files.Tie as tie

@@ -3,8 +3,8 @@ ghost use mathlib.Core.Path.{_≡_};
 ghost use Prim.Native.Nat.{_+_, _*_, _<_, _≤_, min};
 ghost use lib.ListN.{length};
 ghost use Rattle.painting.specs.Frames.{NextLine, Frame};
-ghost use Rattle.nickpaint.specs.Lengths.{Sizes, Ready};
-ghost use Rattle.nickpaint.specs.Refusals.{runRefusal};
+ghost use Rattle.lines.specs.Ready.{Sizes, Ready};
+ghost use Rattle.lines.specs.Refusals.{runRefusal};
 use nick::State;
 
 // The refusal of a run, 0 for none, given that of its register writes: the tests in the order of their numbers. The fresh

@@ -1,4 +1,4 @@
--- `nickpaint::lines::paint_by_line`: after each turn the lines passed are painted, and the rest of both buffers is as it was.
+-- `lines::paint_by_line`: after each turn the lines passed are painted, and the rest of both buffers is as it was.
 use mathlib.Core.Path.{_≡_, ap, _∙_}
 use mathlib.Core.List.{_++_}
 use Prim.Native.Nat.{ℕ, _-_, _*_, _≤_, _<_}
@@ -9,10 +9,10 @@ use Rattle.lists.proofs.Laws.{front-all}
 use Rattle.nick.specs.Record.{nextState, stateAfter}
 use Rattle.nick.specs.Painting.{frameDots, frameRecords}
 use Rattle.painting.proofs.FrameLines.{dots-more, records-more}
-use Rattle.nickpaint.proofs.OwnLine.{line-fits}
+use Rattle.lines.proofs.OwnLine.{line-fits}
 use borrow.Author.Needs.{needs}
-use Rattle.nickpaint.proofs.lines.paint_by_line.Statement.{statement}
-use Rattle.nickpaint.proofs.lines.paint_by_line.Tie as tie
+use Rattle.lines.proofs.paint_by_line.Statement.{statement}
+use Rattle.lines.proofs.paint_by_line.Tie as tie
 
 abbrev Inv-loop : tie.InvT-loop
 Inv-loop ram height dots₀ records₀ external next₀ y₀ dots records next y =

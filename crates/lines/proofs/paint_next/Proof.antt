@@ -1,4 +1,4 @@
--- `nickpaint::lines::paint_next`: the line is accepted, and the parts that were lent come back with its dots and record.
+-- `lines::paint_next`: the line is accepted, and the parts that were lent come back with its dots and record.
 use mathlib.Core.Path.{_≡_, _∙_}
 use Prim.Native.Nat.{_+_, _-_, _*_, _<_}
 use native.Mathlib.Omega.{arith}
@@ -6,10 +6,10 @@ use lib.ListN.{take, drop}
 use Rattle.lists.proofs.Laws.{part-length}
 use Rattle.claims.proofs.Paintings.{refusal-is}
 use Rattle.painting.proofs.FrameLines.{next-formed}
-use Rattle.nickpaint.proofs.OwnLine.{own-line, part-fits, line-accepted, line-dots, line-record, line-state}
+use Rattle.lines.proofs.OwnLine.{own-line, part-fits, line-accepted, line-dots, line-record, line-state}
 use borrow.Author.Needs.{needs}
-use Rattle.nickpaint.proofs.lines.paint_next.Statement.{statement}
-use Rattle.nickpaint.proofs.lines.paint_next.Tie as tie
+use Rattle.lines.proofs.paint_next.Statement.{statement}
+use Rattle.lines.proofs.paint_next.Tie as tie
 
 mul-a : tie.Need-mul-a
 mul-a c = search needs

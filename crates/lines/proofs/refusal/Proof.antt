@@ -1,12 +1,12 @@
--- `nickpaint::lines::refusal` makes the definition's tests in its order; each return rewrites it with the tests that led there.
+-- `lines::refusal` makes the definition's tests in its order; each return rewrites it with the tests that led there.
 use Prim.Native.Nat.{_*_}
 use lib.ListN.{length}
 use borrow.Author.Tests.{lt-ltb, le-ltb, eq-eqb, ne-eqb}
 use native.Mathlib.Omega.{arith}
-use Rattle.nickpaint.specs.Refusals.{runRefusal}
+use Rattle.lines.specs.Refusals.{runRefusal}
 use borrow.Author.Needs.{needs}
-use Rattle.nickpaint.proofs.lines.refusal.Statement.{statement}
-use Rattle.nickpaint.proofs.lines.refusal.Tie as tie
+use Rattle.lines.proofs.refusal.Statement.{statement}
+use Rattle.lines.proofs.refusal.Tie as tie
 
 returns : tie.Need-returns
 unfolding runRefusal
