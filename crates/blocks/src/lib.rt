@@ -1,7 +1,6 @@
 // Line parameter blocks: decoding the sixteen bytes, and how a scanline begins.
 ghost use mathlib.Core.Path.{_≡_};
-ghost use Prim.Native.Nat.{_+_, _*_, _<_, _≤_};
-ghost use mathlib.Core.Bool.{true, false};
+ghost use Prim.Native.Nat.{_+_, _*_, _<_};
 ghost use lib.ListN.{length};
 ghost use Rattle.nick.specs.Registers.{baseNumber};
 ghost use Rattle.nick.specs.Blocks.{decoded, blockAt, loadedNumber, loaded, continued, loads, begun};

@@ -1,6 +1,6 @@
 -- The colour of a dot, where external colour wins and where it does not.
 use mathlib.Core.Path.{_≡_}
-use mathlib.Core.Bool.{Bool, true, false}
+use mathlib.Core.Bool.{true, false}
 use Prim.Native.Nat.{ℕ}
 use Rattle.nick.specs.Colour.{paletteColour, pixelColour}
 use Rattle.nick.specs.External.{externalIndex, externalWins, mixedColour}

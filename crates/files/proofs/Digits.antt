@@ -1,16 +1,15 @@
 -- Laws on the number that digits spell: a byte that is none spoils every longer text, and the bound may be taken early.
 use mathlib.Core.Path.{_≡_, refl}
-use mathlib.Core.Bool.{Bool, true, false, not, _&&_, _||_}
+use mathlib.Core.Bool.{Bool, true, false, _&&_, _||_}
 use mathlib.Core.List.{List}
 use Prim.Native.Nat.{ℕ, zero, suc, _+_, _-_, _*_, _≤_, _<_, min}
 use native.Mathlib.Nat.{add-zero, add-suc}
 use native.Mathlib.Numerals.{add-one}
 use native.Mathlib.Omega.{arith}
-use lib.Dec.{eqb, ltb}
+use lib.Dec.{eqb}
 use lib.ListN.{length, getD}
 use borrow.Author.Tests.{lt-ltb, le-ltb, ne-eqb}
 use Rattle.files.specs.Numbers.{digit, digits, value, numberOf}
-use Rattle.files.specs.declared.argument.Number.{Number}
 use Rattle.files.specs.declared.argument.Number.the-variants.{Value, Missing}
 
 and-false : (b : Bool) → b && false ≡ false

@@ -1,6 +1,8 @@
-// Helpers on slices that every layer uses.
+// Helpers that every layer uses.
 ghost use mathlib.Core.Path.{_≡_};
+ghost use Prim.Native.Nat.{_≤_};
 ghost use lib.ListN.{length, replicate};
+ghost use Rattle.lists.specs.Choice.{number};
 
 // Writes `value` over the whole slice.
 pub fn fill(out: &mut [u8], value: u8)
@@ -11,4 +13,11 @@ pub fn fill(out: &mut [u8], value: u8)
         out[i] = value;
         i += 1;
     }
+}
+
+// 1 for true, 0 for false.
+pub fn bit(b: bool) -> u8
+    ensures { λ r. ⌜ (r ≡ number b) × (r ≤ 1) ⌝ }
+{
+    if b { 1 } else { 0 }
 }

@@ -1,8 +1,7 @@
 -- Laws that go by the video mode's number.
 use mathlib.Core.Path.{_≡_, refl}
-use mathlib.Core.Bool.{Bool, true, false, true≢false, not, _||_, _&&_}
+use mathlib.Core.Bool.{false, true≢false, not, _||_, _&&_}
 use Prim.Native.Nat.{ℕ, zero, suc, _-_, _<_, _≤_}
-use native.Mathlib.Nat.{not-suc-le-zero, le-of-suc-le-suc}
 use native.Mathlib.Omega.{arith}
 use lib.Dec.{eqb, leb}
 use Rattle.nick.specs.Slots.{CH, modeNumbered, modeFetches, linePointers}

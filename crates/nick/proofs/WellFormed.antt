@@ -1,13 +1,13 @@
 -- A scanline keeps the scan well-formed: block numbers below 4,096, and 1 to 256 scanlines left as it begins.
-use mathlib.Core.Path.{_≡_, refl, sym, _∙_}
+use mathlib.Core.Path.{_≡_, refl, _∙_}
 use mathlib.Core.Bool.{Bool, true, false, true≢false, not, _||_}
 use mathlib.Core.List.{List}
-use Prim.Native.Nat.{ℕ, zero, suc, _+_, _-_, _*_, _%_, _<_, _≤_}
+use Prim.Native.Nat.{ℕ, _*_, _<_, _≤_}
 use native.Mathlib.Nat.{add-zero}
 use native.Mathlib.Omega.{arith}
 use borrow.Author.Tests.{eqb-false}
 use lib.Dec.{eqb}
-use lib.ListN.{take, drop}
+use lib.ListN.{drop}
 use lib.Seq.{getD-take, getD-drop}
 use Rattle.lists.specs.Choice.{pick}
 use Rattle.nick.specs.Numbers.{isSet, byteAt}

@@ -1,5 +1,5 @@
 -- Document 01, "One scanline", first two paragraphs: which block is loaded and when, and how a scanline begins.
-use Prim.Native.Nat.{ℕ, _+_, _-_, _*_, _/_, _%_}
+use Prim.Native.Nat.{ℕ, _+_, _-_, _*_, _%_}
 use mathlib.Core.Bool.{Bool, not, _||_}
 use mathlib.Core.List.{List, [], _∷_}
 use lib.Dec.{eqb}
@@ -9,7 +9,6 @@ use Rattle.lists.specs.Tab.{tab}
 use Rattle.nick.specs.Numbers.{isSet, byteAt}
 use Rattle.nick.specs.Registers.{baseNumber}
 use Rattle.nick.specs.declared.Registers.{Registers}
-use Rattle.nick.specs.declared.Pointers.{Pointers}
 use Rattle.nick.specs.declared.Block.{Block}
 use Rattle.nick.specs.declared.Scan.{Scan}
 

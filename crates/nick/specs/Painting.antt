@@ -6,7 +6,7 @@ use lib.ListN.{length, replicate}
 use Rattle.lists.specs.Choice.{pick}
 use Rattle.nick.specs.Numbers.{byteAt}
 use Rattle.nick.specs.Scanline.{lineDots}
-use Rattle.nick.specs.Record.{lineRecord, nextState, stateAfter}
+use Rattle.nick.specs.Record.{lineRecord, stateAfter}
 use Rattle.nick.specs.Refusals.{paintingRefusal}
 use Rattle.nick.specs.declared.State.{State}
 

@@ -9,9 +9,7 @@ use Rattle.nick.specs.Blocks.{loads, begun, vint}
 use Rattle.nick.specs.Slots.{Mode, VSYNC, PIXEL, ATTR, CH, UNUSED, LPIXEL, modeOf, modeFetches, activeSlots}
 use Rattle.nick.specs.Scanline.{lineFetches, nextScan}
 use Rattle.nick.specs.Sync.{syncs, lineSync, lineSyncCount}
-use Rattle.nick.specs.declared.Registers.{Registers}
 use Rattle.nick.specs.declared.Block.{Block}
-use Rattle.nick.specs.declared.Scan.{Scan}
 use Rattle.nick.specs.declared.State.{State}
 
 -- "bit 5 video mode 6"

@@ -1,7 +1,7 @@
 -- Document 01, "Buffers and refusal numbers": the tests of the table. A call tests its numbers in rising order, so that
 -- "the smallest number is given"; 0 stands for no refusal.
 use Prim.Native.Nat.{ℕ, zero, suc, _+_, _*_}
-use mathlib.Core.Bool.{Bool, true, false, not, _&&_, _||_}
+use mathlib.Core.Bool.{Bool, false, not, _&&_, _||_}
 use mathlib.Core.List.{List}
 use lib.Dec.{eqb, ltb}
 use lib.ListN.{length}

@@ -9,11 +9,10 @@ use lib.Dec.{eqb}
 use lib.ListN.{length, replicate}
 use Rattle.lists.specs.Choice.{pick}
 use Rattle.nick.specs.Registers.{freshState, writeRefusal, written}
-use Rattle.nick.specs.Painting.{paint}
 use Rattle.nick.specs.Numbers.{byteAt}
 use Rattle.nick.specs.Refusals.{listingRefusal}
 use Rattle.nick.specs.Direct.{answered, direct}
-use Rattle.nick.specs.Listing.{listing, listAnswer, listOutput}
+use Rattle.nick.specs.Listing.{listing, listAnswer}
 use Rattle.nick.specs.declared.Registers.{Registers}
 use Rattle.nick.specs.declared.Answer.{Answer}
 use Rattle.nick.specs.declared.Listed.{Listed}
@@ -24,8 +23,8 @@ use Rattle.nick.specs.declared.Painted.{Painted}
 use Rattle.painting.specs.Frames.{Paints}
 use Rattle.listing.specs.Lists.{Lists}
 use Rattle.listing.proofs.Length.{listing-bound}
-use Rattle.nick_c.specs.Encoding.{encoded, stateOf}
-use Rattle.nick_c.specs.Calls.{Freshens, Writes, Bytes, withState, withoutState, paintBytes, PaintsBytes, ListsBytes, packedAnswer, dotAnswer, packedListed, lengthOf, portRefusal, kept}
+use Rattle.encoding.specs.Encoding.{encoded, stateOf}
+use Rattle.nick_c.specs.Calls.{Freshens, Writes, paintBytes, PaintsBytes, ListsBytes, packedAnswer, dotAnswer, packedListed, lengthOf, portRefusal, kept}
 
 -- a refused call leaves the bytes
 pub kept-refused : (n : ℕ) (s : State) (b : List ℕ) → (n ≡ 0 → ⊥) → kept n s b ≡ b

@@ -15,8 +15,8 @@ use Rattle.nick.specs.Painting.{painted, refusedPainting, paint}
 use Rattle.nick.specs.declared.Registers.{Registers}
 use Rattle.nick.specs.declared.Scan.{Scan}
 use Rattle.nick.specs.declared.State.{State}
-use Rattle.nick_c.specs.Encoding.{encoded, scanOf, stateOf}
-use Rattle.nick_c.proofs.StateBytes.{round-trip}
+use Rattle.encoding.specs.Encoding.{encoded, scanOf, stateOf}
+use Rattle.encoding.proofs.StateBytes.{round-trip}
 
 -- the stored block has eight colours
 abbrev pub Eight : State → Type 0

@@ -1,3 +1,2 @@
-pub mod StateBytes
 pub mod Calls
 pub mod Chains

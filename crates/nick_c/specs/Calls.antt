@@ -15,7 +15,7 @@ use Rattle.nick.specs.declared.Levels.{Levels}
 use Rattle.nick.specs.declared.Listed.{Listed}
 use Rattle.nick.specs.declared.Listed.the-variants.{Length, Refused}
 use Rattle.nick.specs.declared.State.{State}
-use Rattle.nick_c.specs.Encoding.{encoded, stateOf}
+use Rattle.encoding.specs.Encoding.{encoded, stateOf}
 
 -- a state has 32 bytes
 abbrev pub isState : List ℕ → Bool

@@ -6,7 +6,6 @@ ghost use Rattle.nick.specs.Levels.{levelsOf};
 ghost use Rattle.nick_c.specs.Calls.{Freshens, Writes, PaintsBytes, ListsBytes, dotAnswer, packedLevels, kept};
 
 mod answer;
-mod encoding;
 
 use answer::packed_answer;
 use answer::packed_listed;

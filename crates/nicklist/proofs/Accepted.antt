@@ -16,7 +16,7 @@ use Rattle.nick.specs.declared.Listed.the-variants.{Length, Refused}
 use Rattle.nick.specs.declared.Written.{Written}
 use Rattle.files.specs.Writes.{writtenAll}
 use Rattle.claims.proofs.Refusals.{not-picked, rest-zero}
-use Rattle.nicklist.specs.Lists.{ListsFrom, ListsAfter}
+use Rattle.nicklist.specs.Lists.{ListsAfter}
 
 listed : (n k l : ℕ) → Length k ≡ pick (eqb n 0) (Length l) (Refused n) → (n ≡ 0) × (k ≡ l)
 listed n k l e = go (eqb n 0) refl e

@@ -6,7 +6,8 @@ ghost use mathlib.Core.Path.{_≡_};
 ghost use Prim.Native.Nat.{_*_, _≤_};
 ghost use lib.ListN.{length};
 ghost use Rattle.lines.specs.Ready.{Ready};
-ghost use Rattle.nickpaint.specs.Arguments.{linesStamped, firstUnread};
+ghost use Rattle.lists.specs.Choice.{pick};
+ghost use Rattle.nickpaint.specs.Arguments.{linesStamped, firstUnread, stamps};
 ghost use Rattle.nickpaint.specs.Lengths.{Whole, Within};
 use files::Number;
 use libc::STDOUT_FILENO;
@@ -64,9 +65,10 @@ fn lines_stamped(height: Number) -> usize
     n
 }
 
-// Writes RECORDS with a stamp for each line.
+// Stamps the records, and writes those of the lines given to RECORDS.
 fn stamp(lines: usize, records: &mut [u8]) -> bool
     requires { ⌜ 4 * lines ≤ length (now records) ⌝ }
+    ensures { λ r. ⌜ now (records .exit) ≡ stamps (now (records .entry)) ⌝ }
 {
     lists::fill(records, 255);
     let end = 4 * lines;
@@ -114,15 +116,27 @@ fn read_files(ram: &mut [u8], writes: &mut [u8], external: &mut [u8]) -> Lengths
     }
 }
 
-// Writes DOTS, then RECORDS; where RECORDS fails, it is stamped again.
-fn write_painted(height: usize, dots: &[u8], records: &mut [u8]) {
+// Writes RECORDS; where that fails, it is stamped again.
+fn write_records(height: usize, records: &mut [u8]) -> bool
+    requires { ⌜ 4 * height ≤ length (now records) ⌝ }
+    ensures { λ r. ⌜ now (records .exit) ≡ pick r (now (records .entry)) (stamps (now (records .entry))) ⌝ }
+{
+    if files::write_argument(RECORDS, records) {
+        return true;
+    }
+    stamp(height, records);
+    false
+}
+
+// Writes DOTS, then RECORDS.
+fn write_painted(height: usize, dots: &[u8], records: &mut [u8])
+    requires { ⌜ 4 * height ≤ length (now records) ⌝ }
+{
     if !files::write_argument(DOTS, dots) {
         files::print_unwritten(DOTS);
         return;
     }
-    if !files::write_argument(RECORDS, records) {
-        lists::fill(records, 255);
-        files::write_argument(RECORDS, records);
+    if !write_records(height, records) {
         files::print_unwritten(RECORDS);
         return;
     }

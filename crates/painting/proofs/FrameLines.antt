@@ -1,17 +1,16 @@
 -- Laws on the lines of a frame: one line more, all lines, and what an accepted painting has.
-use mathlib.Core.Path.{_≡_, refl, sym, ap, _∙_}
-use mathlib.Core.Bool.{Bool, true, false, not}
+use mathlib.Core.Path.{_≡_, sym, _∙_}
 use mathlib.Core.List.{List, _++_}
-use Prim.Native.Nat.{ℕ, zero, suc, _+_, _*_, _≤_, _<_}
+use Prim.Native.Nat.{ℕ, suc, _+_, _*_, _≤_, _<_}
 use native.Mathlib.Numerals.{add-one}
 use native.Mathlib.Omega.{arith}
 use lib.Dec.{eqb, ltb}
 use lib.ListN.{length, take, drop, replicate}
 use borrow.Author.Tests.{ltb-false, eqb-true, not-false}
-use Rattle.lists.proofs.Laws.{lent, front-all}
-use Rattle.nick.specs.Scanline.{lineDots, nextScan}
+use Rattle.lists.proofs.Laws.{lent}
+use Rattle.nick.specs.Scanline.{lineDots}
 use Rattle.nick.specs.Record.{lineRecord, nextState, stateAfter}
-use Rattle.nick.specs.Refusals.{illFormed, notFull, badHeight, badDots, badRecords, badExternal, pastEnd, paintingRefusal}
+use Rattle.nick.specs.Refusals.{illFormed, notFull, badHeight, badDots, badRecords, paintingRefusal}
 use Rattle.nick.specs.Painting.{externalAt, frameDots, frameRecords, painted, refusedPainting}
 use Rattle.nick.specs.declared.State.{State}
 use Rattle.nick.proofs.WellFormed.{next-number, next-left}

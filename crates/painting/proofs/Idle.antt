@@ -1,14 +1,13 @@
 -- A scanline in which no slot fetches: its dots are plain, its pointers stay.
 use mathlib.Core.Path.{_≡_, refl, sym, ap, _∙_}
 use mathlib.Core.Bool.{Bool, true, false, true≢false, _&&_}
-use mathlib.Core.List.{List, [], _++_, append-nil, map}
-use Prim.Native.Nat.{ℕ, zero, suc, _+_, _-_, _*_, _≤_}
+use mathlib.Core.List.{List, [], map}
+use Prim.Native.Nat.{ℕ, zero, suc, _+_, _*_, _≤_}
 use native.Mathlib.Decide.{decLe}
 use native.Mathlib.Omega.{arith}
 use borrow.Author.Tests.{le-leb, lt-leb, le-ltb}
 use lib.ListN.{length, replicate, replicate-append-replicate}
 use Rattle.lists.specs.Choice.{pick}
-use Rattle.lists.specs.Tab.{tab}
 use Rattle.lists.proofs.Laws.{tab-same, tab-one}
 use Rattle.nick.specs.Numbers.{byteAt}
 use Rattle.nick.specs.Slots.{

@@ -1,7 +1,7 @@
 // Painting scanlines: one, and 1 to 1,024 in order, with every refusal of the table. The refusals come first, then the
 // scanlines one after another.
 ghost use mathlib.Core.Path.{_≡_};
-ghost use Prim.Native.Nat.{_+_, _*_, _-_, _<_, _≤_};
+ghost use Prim.Native.Nat.{_+_, _*_, _<_, _≤_};
 ghost use lib.ListN.{length};
 ghost use Rattle.nick.specs.Refusals.{paintingRefusal};
 ghost use mathlib.Core.Bool.{_||_};

@@ -1,85 +1,19 @@
-// Lists random tables, and prints a digest for each ten cases and how many calls were refused.
-// The same cases go through an independent program, whose output is the expected one.
-mod random;
-
+// Runs the listings of second/README.md, family "listings", and prints its lines.
 ghost use mathlib.Core.Path.{_≡_};
-ghost use Prim.Native.Nat.{_≤_, _<_};
+ghost use Prim.Native.Nat.{_<_, _≤_};
 ghost use lib.ListN.{length};
-use libc::STDOUT_FILENO;
 use nick::Listed;
 use nick::Registers;
-use random::DIGEST_START;
-use random::digest_byte;
-use random::digest_bytes;
-use random::draw;
-use random::start;
 
-// What the cases so far came to: the digest of the line, and the calls by their refusal.
-struct Run {
+// Where a case stands after a call: the digest, and the listing's length, 0 if it was refused.
+struct Turn {
     digest: u64,
-    accepted: u64,
-    refused4: u64,
-    refused10: u64,
-    // the length of the last listing, 0 if it was refused
     length: usize,
 }
 
-// What a listing's case uses of its head, and P and Q.
-struct Head {
-    flavour: u8,
-    registers: Registers,
-    // the length of RAM
-    length: usize,
-    p: u8,
-    q: u8,
-}
-
-// Whether bit n of a byte is set; `power` is 2 to the n.
-fn bit(byte: u8, power: u8) -> bool
-    requires { ⌜ 0 < power ⌝ }
-{
-    byte / power % 2 == 1
-}
-
-// The registers as drawn, changed by two bits of K.
-fn registers_of(registers: Registers, k: u8) -> Registers {
-    let mut g = registers;
-    if bit(k, 16) {
-        g.lph = g.lph % 64 + 192;
-    }
-    if bit(k, 64) {
-        g.lpl = 240 + g.lpl % 16;
-        g.lph = g.lph / 16 * 16 + 15;
-    }
-    g
-}
-
-// Whether trouble 2, a wrong length of RAM, befalls the case.
-fn is_troubled(t0: u8, t1: u8) -> bool {
-    match t0 {
-        0..=31 => t1 % 7 == 2,
-        32..=63 => bit(t1, 4),
-        _ => false,
-    }
-}
-
-fn ram_length(t0: u8, t1: u8, t4: u8) -> usize
-    ensures { λ r. ⌜ r ≤ 65537 ⌝ }
-{
-    if !is_troubled(t0, t1) {
-        return 65536;
-    }
-    match t4 % 4 {
-        0 => 65535,
-        1 => 0,
-        2 => 65537,
-        _ => 32768,
-    }
-}
-
-// Whether RELOAD is cleared in block n.
-fn is_cleared(flavour: u8, n: usize) -> bool {
-    match flavour % 8 {
+// Whether RELOAD is cleared in block n: in all, in most or in none.
+fn is_cleared(f: u8, n: usize) -> bool {
+    match f % 8 {
         0 => true,
         1..=3 => n % 16 != 0,
         _ => false,
@@ -87,28 +21,27 @@ fn is_cleared(flavour: u8, n: usize) -> bool {
 }
 
 // Clears RELOAD in one block.
-fn clear_block(ram: &mut [u8], flavour: u8, n: usize)
+fn clear_block(f: u8, n: usize, ram: &mut [u8])
     requires { ⌜ (n < 4096) × (length (now ram) ≡ 65537) ⌝ }
 {
-    if is_cleared(flavour, n) {
+    if is_cleared(f, n) {
         let place = 16 * n + 1;
-        let mb = ram[place];
-        ram[place] = mb - mb % 2;
+        ram[place] = cases::no_reload(ram[place]);
     }
 }
 
-// Clears RELOAD in all blocks, in most or in none.
-fn clear_reload(ram: &mut [u8], flavour: u8)
+// Clears RELOAD as the byte F says.
+fn clear_reload(f: u8, ram: &mut [u8])
     requires { ⌜ length (now ram) ≡ 65537 ⌝ }
 {
     let mut n = 0;
     while n < 4096 {
-        clear_block(ram, flavour, n);
+        clear_block(f, n, ram);
         n += 1;
     }
 }
 
-// The length of the second output, from the length of the first listing. No listing has more than 323,609 bytes.
+// The length of the second output, from P, Q and the length of the first listing. No listing has more than 323,609 bytes.
 fn output_length(p: u8, q: u8, whole: usize) -> usize
     ensures { λ r. ⌜ r ≤ 330000 ⌝ }
 {
@@ -124,151 +57,130 @@ fn output_length(p: u8, q: u8, whole: usize) -> usize
     }
 }
 
-// The digest with an answer: the refusal's number, then the length in four bytes.
-fn digest_answer(d: u64, refusal: u8, length: usize) -> u64 {
-    let d = digest_byte(d, refusal);
-    let d = digest_byte(d, (length % 256) as u8);
-    let d = digest_byte(d, (length / 256 % 256) as u8);
-    let d = digest_byte(d, (length / 65536 % 256) as u8);
-    digest_byte(d, (length / 16777216 % 256) as u8)
+// The refusal of an answer, 0 for none.
+fn refusal_of(answer: Listed) -> u8 {
+    match answer {
+        Listed::Refused(refusal) => refusal,
+        Listed::Length(_) => 0,
+    }
+}
+
+// The length of an answer, 0 if it was refused.
+fn length_of(answer: Listed) -> usize {
+    match answer {
+        Listed::Refused(_) => 0,
+        Listed::Length(length) => length,
+    }
+}
+
+// The digest after an answer: the refusal's number, then the length in four bytes.
+fn digest_answer(digest: u64, refusal: u8, length: usize) -> u64 {
+    let d = cases::digest_byte(digest, refusal);
+    let d = cases::digest_word(d, (length % 65536) as u16);
+    cases::digest_word(d, (length / 65536 % 65536) as u16)
 }
 
 // One call, with its answer and output in the digest.
-fn listed(run: Run, registers: Registers, ram: &[u8], out: &mut [u8]) -> Run {
+fn run_call(
+    digest: u64,
+    registers: Registers,
+    ram: &[u8],
+    out: &mut [u8],
+    tally: &mut [u64],
+) -> Turn {
     lists::fill(out, 170);
-    let mut run = run;
-    match listing::list(registers, ram, out) {
-        Listed::Length(length) => {
-            run.accepted = std::num::wrapping_add_u64(run.accepted, 1);
-            run.digest = digest_answer(run.digest, 0, length);
-            run.length = length;
-        }
-        Listed::Refused(refusal) => {
-            if refusal == 4 {
-                run.refused4 = std::num::wrapping_add_u64(run.refused4, 1);
-            } else {
-                run.refused10 = std::num::wrapping_add_u64(run.refused10, 1);
-            }
-            run.digest = digest_answer(run.digest, refusal, 0);
-            run.length = 0;
-        }
-    }
-    run.digest = digest_bytes(run.digest, out);
-    run
-}
-
-// The head from its 44 bytes, and P and Q from the two after them.
-fn head_of(bytes: &[u8; 46]) -> Head
-    ensures { λ r. ⌜ r .length ≤ 65537 ⌝ }
-{
-    let registers = Registers {
-        fixbias: bytes[2],
-        border: bytes[3],
-        lpl: bytes[4],
-        lph: bytes[5],
-    };
-    let registers = registers_of(registers, bytes[6]);
-    Head {
-        flavour: bytes[0],
-        registers,
-        length: ram_length(bytes[34], bytes[35], bytes[38]),
-        p: bytes[44],
-        q: bytes[45],
+    let answer = listing::list(registers, ram, out);
+    let refusal = refusal_of(answer);
+    let length = length_of(answer);
+    cases::count(tally, refusal);
+    let digest = digest_answer(digest, refusal, length);
+    Turn {
+        digest: cases::digest_bytes(digest, out),
+        length,
     }
 }
 
 // The two calls of a case, the second lent an output of another length.
-fn run_calls(run: Run, head: Head, ram: &[u8], out: &mut [u8]) -> Run
-    requires { ⌜ (head .length ≤ length (now ram)) × (330000 ≤ length (now out)) ⌝ }
+fn run_calls(
+    digest: u64,
+    registers: Registers,
+    p: u8,
+    q: u8,
+    ram: &[u8],
+    out: &mut [u8],
+    tally: &mut [u64],
+) -> u64
+    requires { ⌜ length (now out) ≡ 330000 ⌝ }
 {
-    let registers = head.registers;
-    let length = head.length;
-    let ram = &ram[..length];
-    let run = listed(run, registers, ram, out);
-    let room = output_length(head.p, head.q, run.length);
-    listed(run, registers, ram, &mut out[..room])
+    let first = run_call(digest, registers, ram, out, tally);
+    let room = output_length(p, q, first.length);
+    let second = run_call(first.digest, registers, ram, &mut out[0..room], tally);
+    second.digest
 }
 
-fn ram_buffer() -> [u8; 65537]
-    ensures { λ r. ⌜ 65537 ≡ length r ⌝ }
+// The digest after one case.
+fn run_case(case: u32, digest: u64, ram: &mut [u8], out: &mut [u8], tally: &mut [u64]) -> u64
+    requires { ⌜ (length (now ram) ≡ 65537) × (length (now out) ≡ 330000) ⌝ }
 {
-    [0; 65537]
+    let drawn = cases::begin(3, case);
+    let head = drawn.head;
+    let mut bytes = [0u8; 2];
+    let source = cases::draw(drawn.source, &mut bytes);
+    cases::draw_plain_ram(source, ram);
+    clear_reload(head.f, ram);
+    let end = cases::ram_length(head);
+    run_calls(
+        digest,
+        head.state.registers,
+        bytes[0],
+        bytes[1],
+        &ram[0..end],
+        out,
+        tally,
+    )
 }
 
-fn out_buffer() -> [u8; 330000]
-    ensures { λ r. ⌜ 330000 ≡ length r ⌝ }
+// The digest of the ten cases of a line.
+fn run_cases(from: u32, ram: &mut [u8], out: &mut [u8], tally: &mut [u64]) -> u64
+    requires { ⌜ (from < 400) × (length (now ram) ≡ 65537) × (length (now out) ≡ 330000) ⌝ }
 {
-    [0; 330000]
-}
-
-// One case. The byte after RAM is 0.
-fn run_case(run: Run, case: u64) -> Run {
-    let mut bytes = [0u8; 46];
-    let x = draw(start(case), &mut bytes);
-    let head = head_of(&bytes);
-    let mut ram = ram_buffer();
-    draw(x, &mut ram);
-    ram[65536] = 0;
-    clear_reload(&mut ram, head.flavour);
-    let mut out = out_buffer();
-    run_calls(run, head, &ram, &mut out)
-}
-
-fn print(text: &[u8]) {
-    io::write_all(STDOUT_FILENO, text);
-}
-
-fn print_number(n: u64) {
-    io::print_decimal(STDOUT_FILENO, n);
-}
-
-fn print_line(from: u64, to: u64, digest: u64) {
-    print(b"listings ");
-    print_number(from);
-    print(b" ");
-    print_number(to);
-    print(b" ");
-    print_number(digest);
-    print(b"\n");
-}
-
-fn print_refusals(run: Run) {
-    print(b"cases 400 refusals 0:");
-    print_number(run.accepted);
-    print(b" 4:");
-    print_number(run.refused4);
-    print(b" 10:");
-    print_number(run.refused10);
-    print(b"\n");
-}
-
-// Ten cases and their line.
-fn run_line(run: Run, from: u64) -> Run
-    requires { ⌜ from < 400 ⌝ }
-{
-    let mut run = run;
-    run.digest = DIGEST_START;
-    let mut case = from;
-    while case < from + 10 {
-        run = run_case(run, case);
-        case += 1;
+    let mut digest = cases::START;
+    let mut i: u32 = 0;
+    while i < 10 {
+        digest = run_case(from + i, digest, ram, out, tally);
+        i += 1;
     }
-    print_line(from, from + 9, run.digest);
-    run
+    digest
+}
+
+// Runs a line's cases, and prints it.
+fn run_line(from: u32, ram: &mut [u8], out: &mut [u8], tally: &mut [u64])
+    requires { ⌜ (from < 400) × (length (now ram) ≡ 65537) × (length (now out) ≡ 330000) ⌝ }
+{
+    let digest = run_cases(from, ram, out, tally);
+    cases::print_line(b"listings", from, from + 9, digest);
+}
+
+// Runs all lines.
+fn run_lines(ram: &mut [u8], out: &mut [u8], tally: &mut [u64])
+    requires { ⌜ (length (now ram) ≡ 65537) × (length (now out) ≡ 330000) ⌝ }
+{
+    let mut from: u32 = 0;
+    while from < 400 {
+        run_line(from, ram, out, tally);
+        from += 10;
+    }
+}
+
+// Runs all lines, and prints the last one.
+fn run(ram: &mut [u8; 65537], out: &mut [u8; 330000], tally: &mut [u64; 12]) {
+    run_lines(ram, out, tally);
+    cases::print_tally(400, tally);
 }
 
 fn main() {
-    let mut run = Run {
-        digest: 0,
-        accepted: 0,
-        refused4: 0,
-        refused10: 0,
-        length: 0,
-    };
-    let mut from = 0;
-    while from < 400 {
-        run = run_line(run, from);
-        from += 10;
-    }
-    print_refusals(run);
+    let mut ram = [0u8; 65537];
+    let mut out = [0u8; 330000];
+    let mut tally = [0u64; 12];
+    run(&mut ram, &mut out, &mut tally);
 }

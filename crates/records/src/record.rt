@@ -1,17 +1,10 @@
 // The line record's first and last byte.
 ghost use mathlib.Core.Path.{_≡_};
 ghost use mathlib.Core.Bool.{_&&_, not};
-ghost use Prim.Native.Nat.{_≤_, min, max};
-ghost use Rattle.lists.specs.Choice.{number};
+ghost use Prim.Native.Nat.{min, max};
 ghost use Rattle.nick.specs.Record.{flags, fetchingSlots};
+use lists::bit;
 use nick::Block;
-
-// 1 for true, 0 for false.
-fn bit(b: bool) -> u8
-    ensures { λ r. ⌜ (r ≡ number b) × (r ≤ 1) ⌝ }
-{
-    if b { 1 } else { 0 }
-}
 
 // VIRQ is low now, and was high in the scanline before.
 fn falls(low: bool, was_low: bool) -> bool

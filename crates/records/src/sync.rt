@@ -1,6 +1,5 @@
 // Sync through the 57 slots of a scanline.
 ghost use Prim.Native.Nat.{_<_};
-ghost use mathlib.Core.Path.{_≡_};
 ghost use Rattle.records.specs.Syncs.{Syncs, SyncStep};
 use nick::Block;
 

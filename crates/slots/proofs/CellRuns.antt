@@ -1,21 +1,19 @@
 -- A cell's eighths, each in `run` dots, are what each colour mode's runs show; two cells of eight dots, or one of sixteen, are
 -- the slot's dots.
-use mathlib.Core.Path.{_≡_, refl, sym, ap, _∙_}
-use mathlib.Core.Bool.{Bool, true, false}
+use mathlib.Core.Path.{_≡_, sym, ap, _∙_}
+use mathlib.Core.Bool.{true, false}
 use mathlib.Core.List.{List, _++_}
-use Prim.Native.Nat.{ℕ, zero, suc, _+_, _-_, _*_, _/_, _%_, _<_}
+use Prim.Native.Nat.{ℕ, _+_, _-_, _*_, _/_, _%_, _<_}
 use native.Mathlib.Nat.{mul-assoc, mul-comm, div-one, div-div-eq-div-mul}
 use native.Mathlib.Decide.{decLt}
 use native.Mathlib.Omega.{arith}
 use borrow.Author.Tests.{eq-eqb, ne-eqb, lt-ltb, le-ltb}
-use lib.Dec.{eqb, ltb, lit<}
+use lib.Dec.{ltb, lit<}
 use lib.ListN.{length, getD, take, drop, replicate}
-use Rattle.lists.specs.Choice.{pick}
 use Rattle.lists.specs.Tab.{tab}
 use Rattle.lists.proofs.Laws.{front-all, lent, tab-same, tab-append, tab-one}
 use Rattle.nick.specs.Numbers.{bit}
 use Rattle.nick.specs.Colour.{two, coloursNumbered}
-use Rattle.nick.specs.declared.Pixel.{Pixel}
 use Rattle.colour.specs.Cell.{cellPixel}
 use Rattle.colour.specs.declared.Cell.{Cell}
 use Rattle.colour.proofs.Pixels.{at-two-low, at-two-high, at-four, at-sixteen, at-all}

@@ -1,8 +1,8 @@
 -- The dots of a slot: those of its cells are the rules' dots, in every mode, and a slot that fetches nothing is plain.
 use mathlib.Core.Path.{_≡_, refl, sym, ap, _∙_}
 use mathlib.Core.Bool.{Bool, true, false}
-use mathlib.Core.List.{List, [], _∷_, _++_, map}
-use Prim.Native.Nat.{ℕ, zero, suc, _+_, _-_, _*_, _/_, _%_, _<_, _≤_}
+use mathlib.Core.List.{List, [], _∷_, map}
+use Prim.Native.Nat.{ℕ, _+_, _-_, _*_, _/_, _%_, _<_, _≤_}
 use native.Mathlib.Nat.{add-assoc}
 use native.Mathlib.Decide.{decLt}
 use native.Mathlib.Omega.{arith}
@@ -27,7 +27,7 @@ use Rattle.nick.specs.Slots.{
   slotPointers,
   dotAddresses,
 }
-use Rattle.nick.specs.Colour.{two, pixelsIn, sharing, coloursOf, graphicsPixel, pixelOf, characterAdded, attributePixel, dotIn, paletteColour, pixelColour}
+use Rattle.nick.specs.Colour.{two, pixelsIn, sharing, coloursOf, graphicsPixel, pixelOf, characterAdded, attributePixel, dotIn, paletteColour}
 use Rattle.nick.specs.External.{mixedColour, dotColour}
 use Rattle.nick.specs.Scanline.{activeAt, pastSlot, slotAddresses, dotAt, slotDots}
 use Rattle.nick.specs.Sync.{syncs}
@@ -36,13 +36,11 @@ use Rattle.nick.specs.declared.Pointers.{Pointers}
 use Rattle.nick.specs.declared.Block.{Block}
 use Rattle.nick.specs.declared.Pixel.{Pixel}
 use Rattle.nick.specs.declared.Pixel.the-variants.{Palette, Direct}
-use Rattle.colour.specs.Cell.{graphicsCell, characterCell, attributeCell, cellPixel, paletteNumber, paletteOf}
-use Rattle.colour.specs.declared.Cell.{Cell}
+use Rattle.colour.specs.Cell.{cellPixel, paletteNumber, paletteOf}
 use Rattle.colour.proofs.Cells.{graphics-pixel, character-pixel, attribute-pixel, sharing-halves, cell-below}
 use Rattle.slots.specs.Fetches.{fetchedIn, fetchedAt, slotPixel}
 use Rattle.slots.specs.Shows.{pixelShown, plainDots, mixedDot, mixedDots, fetchedDots}
 use Rattle.slots.specs.Slots.{AnySlot}
-use Rattle.slots.specs.declared.Slot.{Slot}
 use Rattle.slots.specs.declared.fetch.Fetched.{Fetched}
 
 -- a slot's palette numbers are below 16, whatever its cells hold

@@ -1,5 +1,4 @@
 -- `blocks::is_loading`: the second test decides where the first failed.
-use borrow.Author.Needs.{needs}
 use Rattle.blocks.proofs.is_loading.Statement.{statement}
 use Rattle.blocks.proofs.is_loading.Tie as tie
 

@@ -3,7 +3,6 @@ use Prim.Native.Nat.{_/_, _%_}
 use borrow.Author.Tests.{eq-eqb, ne-eqb}
 use native.Mathlib.Omega.{arith}
 use Rattle.nick.specs.Blocks.{continued}
-use borrow.Author.Needs.{needs}
 use Rattle.blocks.proofs.resume.Statement.{statement}
 use Rattle.blocks.proofs.resume.Tie as tie
 

@@ -1,9 +1,9 @@
 -- `colour::put_palette`: after n turns the first n colours are written.
 use mathlib.Core.Path.{_≡_, ap, _∙_}
 use mathlib.Core.List.{_++_}
-use Prim.Native.Nat.{ℕ, _-_, _≤_}
+use Prim.Native.Nat.{_-_, _≤_}
 use native.Mathlib.Omega.{arith}
-use lib.ListN.{length, drop, set, length-set}
+use lib.ListN.{length, drop, length-set}
 use Rattle.lists.specs.Tab.{tab}
 use Rattle.lists.proofs.Laws.{tab-stored, tab-all}
 use Rattle.nick.specs.Colour.{paletteColour}

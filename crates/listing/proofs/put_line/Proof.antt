@@ -1,5 +1,5 @@
-use native.Mathlib.Omega.{arith}
 -- `listing::put_line`: the block's number is the base number and k, its bytes are those at the number.
+use native.Mathlib.Omega.{arith}
 use borrow.Author.Needs.{needs}
 use Rattle.listing.proofs.put_line.Statement.{statement}
 use Rattle.listing.proofs.put_line.Tie as tie

@@ -1,10 +1,10 @@
 -- `lists::fill`: after i turns the first i places hold the value, the rest is as it was.
 use mathlib.Core.Path.{_≡_, _∙_}
-use mathlib.Core.List.{List, _++_}
+use mathlib.Core.List.{_++_}
 use Prim.Native.Nat.{_≤_, _-_}
 use lib.ListN.{length, drop, replicate, length-set}
 use borrow.Author.Needs.{needs}
-use borrow.Author.Fill.{fill-none, fill-more}
+use borrow.Author.Fill.{fill-more}
 use native.Mathlib.Omega.{arith}
 use Rattle.lists.proofs.Laws.{front-all}
 use Rattle.lists.proofs.fill.Statement.{statement}

@@ -1,5 +1,5 @@
 -- `nick_c::nick_write`: with another length the port's own refusal still comes first.
-use mathlib.Core.Path.{_≡_, ap, sym, _∙_}
+use mathlib.Core.Path.{_≡_, ap, _∙_}
 use native.Mathlib.Omega.{arith}
 use Rattle.nick.specs.declared.Written.{Written}
 use Rattle.nick_c.proofs.Calls.{port-refused, length-refused, write-done}

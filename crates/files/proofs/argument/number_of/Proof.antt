@@ -1,10 +1,10 @@
 -- `files::argument::number_of`: the bytes passed are digits, and the value is the number that they spell, at most 65,536.
-use mathlib.Core.Path.{_≡_, refl, sym, ap, _∙_}
-use mathlib.Core.Bool.{Bool, true}
-use Prim.Native.Nat.{ℕ, _+_, _-_, _*_, _≤_, _<_, min}
+use mathlib.Core.Path.{_≡_, _∙_}
+use mathlib.Core.Bool.{true}
+use Prim.Native.Nat.{_-_, _≤_, min}
 use native.Mathlib.Omega.{arith}
-use lib.ListN.{length, getD}
-use Rattle.files.specs.Numbers.{digits, value, numberOf}
+use lib.ListN.{length}
+use Rattle.files.specs.Numbers.{digits, value}
 use Rattle.files.proofs.Digits.{digits-more, value-more, none-empty, none-spoilt, some-number}
 use borrow.Author.Needs.{needs}
 use Rattle.files.proofs.argument.number_of.Statement.{statement}

@@ -2,7 +2,6 @@
 use borrow.Author.Tests.{eq-eqb, ne-eqb}
 use native.Mathlib.Omega.{arith}
 use Rattle.files.specs.Writes.{given}
-use borrow.Author.Needs.{needs}
 use Rattle.files.proofs.writes.given.Statement.{statement}
 use Rattle.files.proofs.writes.given.Tie as tie
 

@@ -1,5 +1,5 @@
 -- `painting::line::paint_scanline` puts its parts together by the laws of `Scanlines`.
-use mathlib.Core.Path.{_≡_, sym, ap, _∙_}
+use mathlib.Core.Path.{ap, _∙_}
 use Prim.Native.Nat.{_<_}
 use native.Mathlib.Omega.{arith}
 use Rattle.nick.specs.Slots.{modeOf, linePointers}

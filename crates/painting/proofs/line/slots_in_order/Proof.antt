@@ -1,12 +1,12 @@
 -- `painting::line::slots_in_order`: after each turn the slots passed are painted, and the rest of the scanline is as it was.
-use mathlib.Core.Path.{_≡_, refl, sym, ap, _∙_}
+use mathlib.Core.Path.{_≡_, ap, _∙_}
 use mathlib.Core.List.{_++_}
-use Prim.Native.Nat.{ℕ, suc, _+_, _-_, _*_, _≤_}
+use Prim.Native.Nat.{ℕ, _+_, _-_, _*_, _≤_}
 use native.Mathlib.Numerals.{add-one}
 use native.Mathlib.Omega.{arith}
-use lib.ListN.{length, drop, length-append}
+use lib.ListN.{length, drop}
 use Rattle.nick.specs.Numbers.{byteAt}
-use Rattle.nick.specs.Scanline.{activeAt, pastSlot, pointersAfter, slotAddresses, slotsFetched, slotsDots, begunFetches}
+use Rattle.nick.specs.Scanline.{activeAt, pastSlot, pointersAfter, slotsFetched, slotsDots, begunFetches}
 use Rattle.painting.specs.Lines.{slotsEnd}
 use Rattle.painting.proofs.DotSlots.{slot-more, slots-all, fetched-more}
 use borrow.Author.Needs.{needs}

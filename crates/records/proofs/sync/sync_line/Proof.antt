@@ -1,10 +1,9 @@
 -- `records::sync::sync_line`: after each turn the level and the count are the rules' over the slots passed.
-use mathlib.Core.Path.{_≡_, refl, _∙_, ap, ap₂}
-use Prim.Native.Nat.{ℕ, suc, _+_, _-_, _/_, _%_, _≤_}
+use mathlib.Core.Path.{_≡_, _∙_, ap}
+use Prim.Native.Nat.{ℕ, suc, _-_, _/_, _%_, _≤_}
 use native.Mathlib.Numerals.{add-one}
 use native.Mathlib.Omega.{arith}
 use borrow.Author.Tests.{eq-eqb, ne-eqb}
-use Rattle.lists.specs.Choice.{number}
 use Rattle.lists.proofs.Laws.{number-le}
 use Rattle.nick.specs.Sync.{syncAt, syncAfter, syncCount, lineSync, lineSyncCount}
 use Rattle.nick.proofs.Modes.{syncs-zero}

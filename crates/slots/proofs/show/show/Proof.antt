@@ -1,8 +1,5 @@
 -- `slots::show::show`: with no external input connected the plain dots are the mixed ones.
-use mathlib.Core.Path.{ap, _∙_}
-use mathlib.Core.List.{List}
-use Prim.Native.Nat.{ℕ}
-use lib.ListN.{length}
+use mathlib.Core.Path.{_∙_}
 use Rattle.slots.proofs.Slots.{palette-length, plain-mixed}
 use borrow.Author.Needs.{needs}
 use Rattle.slots.proofs.show.show.Statement.{statement}

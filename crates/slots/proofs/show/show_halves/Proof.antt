@@ -1,5 +1,4 @@
 -- `slots::show::show_halves` shows each cell in its half of the slot.
-use mathlib.Core.Path.{_∙_}
 use Rattle.slots.proofs.CellRuns.{halves-lent}
 use borrow.Author.Needs.{needs}
 use Rattle.slots.proofs.show.show_halves.Statement.{statement}

@@ -1,8 +1,8 @@
--- `nick_c::encoding::state_bytes` puts each field in its place.
-use Rattle.nick_c.proofs.StateBytes.{bytes-put}
+-- `encoding::state_bytes` puts each field in its place.
+use Rattle.encoding.proofs.StateBytes.{bytes-put}
 use borrow.Author.Needs.{needs}
-use Rattle.nick_c.proofs.encoding.state_bytes.Statement.{statement}
-use Rattle.nick_c.proofs.encoding.state_bytes.Tie as tie
+use Rattle.encoding.proofs.state_bytes.Statement.{statement}
+use Rattle.encoding.proofs.state_bytes.Tie as tie
 
 flags-requires : tie.Need-flags-requires
 flags-requires c κs = search needs

@@ -1,10 +1,10 @@
 // The state as 32 bytes: specs/Encoding.antt has the places.
 ghost use mathlib.Core.Path.{_≡_};
-ghost use Prim.Native.Nat.{_≤_, _/_, _%_};
+ghost use Prim.Native.Nat.{_/_, _%_};
 ghost use lib.ListN.{length};
-ghost use Rattle.lists.specs.Choice.{number};
-ghost use Rattle.nick_c.specs.Encoding.{encoded, flagsOf, scanOf, stateOf};
+ghost use Rattle.encoding.specs.Encoding.{encoded, flagsOf, scanOf, stateOf};
 use blocks::word;
+use lists::bit;
 use nick::Pointers;
 use nick::Registers;
 use nick::Scan;
@@ -53,13 +53,6 @@ pub fn decode_state(bytes: &[u8]) -> State
     }
 }
 
-// 1 for true, 0 for false.
-fn bit(b: bool) -> u8
-    ensures { λ r. ⌜ (r ≡ number b) × (r ≤ 1) ⌝ }
-{
-    if b { 1 } else { 0 }
-}
-
 // Bit 0 reload pending, bit 1 VIRQ low, bit 2 sync on.
 fn flags(state: State) -> u8
     ensures { λ r. ⌜ r ≡ flagsOf state ⌝ }
@@ -68,21 +61,21 @@ fn flags(state: State) -> u8
 }
 
 // The low byte of a pair.
-fn low(pair: u16) -> u8
+pub fn low(pair: u16) -> u8
     ensures { λ r. ⌜ r ≡ pair % 256 ⌝ }
 {
     (pair % 256) as u8
 }
 
 // The high byte of a pair.
-fn high(pair: u16) -> u8
+pub fn high(pair: u16) -> u8
     ensures { λ r. ⌜ r ≡ pair / 256 ⌝ }
 {
     (pair / 256) as u8
 }
 
 // The bytes of a state.
-fn state_bytes(state: State) -> [u8; 32]
+pub fn state_bytes(state: State) -> [u8; 32]
     ensures { λ r. ⌜ r ≡ encoded state ⌝ }
 {
     let registers = state.registers;

@@ -1,9 +1,9 @@
--- `nick_c::encoding::encode_state` copies all 32 bytes.
+-- `encoding::encode_state` copies all 32 bytes.
 use mathlib.Core.Path.{_∙_}
-use Rattle.nick_c.proofs.StateBytes.{copied}
+use Rattle.encoding.proofs.StateBytes.{copied}
 use borrow.Author.Needs.{needs}
-use Rattle.nick_c.proofs.encoding.encode_state.Statement.{statement}
-use Rattle.nick_c.proofs.encoding.encode_state.Tie as tie
+use Rattle.encoding.proofs.encode_state.Statement.{statement}
+use Rattle.encoding.proofs.encode_state.Tie as tie
 
 state-bytes-requires : tie.Need-state-bytes-requires
 state-bytes-requires c κs = search needs

@@ -1,8 +1,8 @@
--- `nick_c::encoding::flags` adds the three bits.
-use Rattle.nick_c.specs.Encoding.{flagsOf}
+-- `encoding::flags` adds the three bits.
+use Rattle.encoding.specs.Encoding.{flagsOf}
 use borrow.Author.Needs.{needs}
-use Rattle.nick_c.proofs.encoding.flags.Statement.{statement}
-use Rattle.nick_c.proofs.encoding.flags.Tie as tie
+use Rattle.encoding.proofs.flags.Statement.{statement}
+use Rattle.encoding.proofs.flags.Tie as tie
 
 bit-requires : tie.Need-bit-requires
 bit-requires c κs = search needs

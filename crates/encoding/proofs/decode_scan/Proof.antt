@@ -1,9 +1,9 @@
--- `nick_c::encoding::decode_scan` reads each field from its place.
+-- `encoding::decode_scan` reads each field from its place.
 use native.Mathlib.Nat.{div-one}
-use Rattle.nick_c.specs.Encoding.{scanOf}
+use Rattle.encoding.specs.Encoding.{scanOf}
 use borrow.Author.Needs.{needs}
-use Rattle.nick_c.proofs.encoding.decode_scan.Statement.{statement}
-use Rattle.nick_c.proofs.encoding.decode_scan.Tie as tie
+use Rattle.encoding.proofs.decode_scan.Statement.{statement}
+use Rattle.encoding.proofs.decode_scan.Tie as tie
 
 shared-slice-read-word : tie.Need-shared-slice-read-word
 shared-slice-read-word c = search needs

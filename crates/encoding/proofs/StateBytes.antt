@@ -1,5 +1,5 @@
 -- The state's bytes hold the state: encoding then decoding gives it back.
-use mathlib.Core.Path.{_≡_, refl, sym, _∙_}
+use mathlib.Core.Path.{_≡_, refl}
 use mathlib.Core.Bool.{Bool, true, false}
 use mathlib.Core.List.{List, [], _∷_, _++_}
 use Prim.Native.Nat.{ℕ, _+_, _*_, _≤_}
@@ -11,7 +11,7 @@ use Rattle.lists.proofs.Laws.{front-all}
 use Rattle.nick.specs.Numbers.{isSet, byteAt}
 use Rattle.nick.specs.Blocks.{decoded}
 use Rattle.nick.specs.declared.State.{State}
-use Rattle.nick_c.specs.Encoding.{low, high, flagsOf, encoded, scanOf, stateOf}
+use Rattle.encoding.specs.Encoding.{low, high, flagsOf, encoded, scanOf, stateOf}
 
 -- a list of eight, place by place
 pub eight : (xs : List ℕ) → length xs ≡ 8 → byteAt xs 0 ∷ byteAt xs 1 ∷ byteAt xs 2 ∷ byteAt xs 3 ∷ byteAt xs 4 ∷ byteAt xs 5 ∷ byteAt xs 6 ∷ byteAt xs 7 ∷ [] ≡ xs

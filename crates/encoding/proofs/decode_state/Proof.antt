@@ -1,8 +1,8 @@
--- `nick_c::encoding::decode_state` reads each field from its place.
-use Rattle.nick_c.specs.Encoding.{stateOf}
+-- `encoding::decode_state` reads each field from its place.
+use Rattle.encoding.specs.Encoding.{stateOf}
 use borrow.Author.Needs.{needs}
-use Rattle.nick_c.proofs.encoding.decode_state.Statement.{statement}
-use Rattle.nick_c.proofs.encoding.decode_state.Tie as tie
+use Rattle.encoding.proofs.decode_state.Statement.{statement}
+use Rattle.encoding.proofs.decode_state.Tie as tie
 
 shared-slice-read-flags : tie.Need-shared-slice-read-flags
 shared-slice-read-flags c = search needs

@@ -1,0 +1,61 @@
+-- `random_listings::run_cases` is safe and ends: RAM, the output and the tally keep their lengths, and the cases left fall.
+use Prim.Native.Nat.{_-_}
+use mathlib.Core.Path.{_≡_}
+use lib.ListN.{length}
+use borrow.Author.Needs.{needs}
+use Rattle.random_listings.proofs.run_cases.Statement.{statement}
+use Rattle.random_listings.proofs.run_cases.Tie as tie
+
+abbrev Inv-loop : tie.InvT-loop
+Inv-loop from ram₀ out₀ tally₀ digest₀ i₀ ram out tally digest i =
+    (length ram ≡ 65537) × (length out ≡ 330000) × (length tally ≡ length tally₀)
+
+abbrev μ-loop : tie.MeasureT-loop
+μ-loop from ram₀ out₀ tally₀ digest₀ i₀ ram out tally digest i = 10 - i
+
+loop-holds : tie.Need-loop-holds Inv-loop μ-loop
+loop-holds c = search needs
+
+add-run-case : tie.Need-add-run-case Inv-loop μ-loop
+add-run-case c = search needs
+
+run-case-requires : tie.Need-run-case-requires Inv-loop μ-loop
+run-case-requires c κs = search needs
+
+add-i : tie.Need-add-i Inv-loop μ-loop
+add-i c = search needs
+
+loop-less : tie.Need-loop-less Inv-loop μ-loop
+loop-less c = search needs
+
+loop-again : tie.Need-loop-again Inv-loop μ-loop
+loop-again c = search needs
+
+same-length : tie.Need-same-length Inv-loop μ-loop
+same-length c = search needs
+
+same-length-2 : tie.Need-same-length-2 Inv-loop μ-loop
+same-length-2 c = search needs
+
+same-length-3 : tie.Need-same-length-3 Inv-loop μ-loop
+same-length-3 c = search needs
+
+returns : tie.Need-returns Inv-loop μ-loop
+returns c = tt
+
+pub run-cases-spec : {M : Type 1} → statement M
+run-cases-spec =
+    tie.close
+    (tie.spec
+    Inv-loop
+    μ-loop
+    loop-holds
+    add-run-case
+    run-case-requires
+    add-i
+    loop-less
+    loop-again
+    same-length
+    same-length-2
+    same-length-3
+    returns)
