@@ -29,23 +29,39 @@ call-leaves : (s : State) (ram : List ℕ) (c : Call) → Leaves s ram (heightOf
 call-leaves s ram (oneLine dots records external) = paint-leaves s ram 1 dots records external
 call-leaves s ram (lines height dots records external) = paint-leaves s ram height dots records external
 
--- m is made from the state after b lines, and no block of these runs past the end
+-- m is made from the state after b lines, and no block of these runs past the end; if m is accepted, the first state was
+-- well-formed, since from any other every call is refused
 record MadeAfter (s : State) (ram : List ℕ) (b : ℕ) (m : Made) : Type 0 where
   made : m .painting ≡ paintingOf (stateAfter ram b s) ram (m .call)
   inside : pastEnd (s .registers) ram b (s .scan) ≡ false
+  formed : m .painting .refusal ≡ 0 → illFormed (s .scan) ≡ false
+
+-- the state before a call was well-formed, if the one that it returned is
+formed-before :
+    (s : State) (ram : List ℕ) (h : ℕ) (external : List ℕ) (p : Painting)
+    → Leaves s ram h external p
+    → illFormed (p .state .scan) ≡ false
+    → illFormed (s .scan) ≡ false
+formed-before s ram h external p l e = go (eqb (p .refusal) 0) refl (l .state)
+  where
+    go : (t : Bool) → eqb (p .refusal) 0 ≡ t → p .state ≡ stateAfter ram (pick t h 0) s → illFormed (s .scan) ≡ false
+    go true accepted same = l .formed (eqb-true (p .refusal) 0 accepted)
+    go false refused same = rw same at e
 
 -- k lines more before
 later :
     (s t : State) (ram : List ℕ) (k b : ℕ) (m : Made)
     → t ≡ stateAfter ram k s
     → pastEnd (s .registers) ram k (s .scan) ≡ false
+    → (illFormed (t .scan) ≡ false → illFormed (s .scan) ≡ false)
     → MadeAfter t ram b m
     → MadeAfter s ram (k + b) m
-later s t ram k b m e h r = record {
+later s t ram k b m e h f r = record {
   made = rw (state-add ram k b s, ← e) (r .made);
   inside =
       rw (past-end-add (s .registers) ram k b (s .scan), h)
       (rw (e, registers-kept ram k s, scan-of-state ram k s) at (r .inside));
+  formed = λ q. f (r .formed q);
 }
 
 made-after :
@@ -56,7 +72,7 @@ made-after s ram [] [] m after e = absurd (omega (arith, ap length e))
 made-after s ram [] (d ∷ before) m after e = absurd (omega (arith, ap length e))
 made-after s ram (c ∷ calls) [] m after e =
     let first : record { call = c; painting = paintingOf s ram c } ≡ m = cc in
-    rw (← first) (record { made = refl; inside = refl })
+    rw (← first) (record { made = refl; inside = refl; formed = call-leaves s ram c .formed })
 made-after s ram (c ∷ calls) (d ∷ before) m after e =
     let p = paintingOf s ram c in
     let first : record { call = c; painting = p } ≡ d = cc in
@@ -64,6 +80,7 @@ made-after s ram (c ∷ calls) (d ∷ before) m after e =
     let l = call-leaves s ram c in
     rw (← first)
     (later s (p .state) ram (linesOf (record { call = c; painting = p })) (linesIn before) m (l .state) (l .inside)
+    (formed-before s ram (heightOf c) (externalOf c) p l)
     (made-after (p .state) ram calls before m after rest))
 
 -- line i of a painting that starts after b lines is line b + i of the rules
@@ -102,7 +119,7 @@ answers s ram y x e formed full hy hx inside =
     rw (formed, eq-eqb (length ram) 65536 full, le-ltb 1023 y hy, le-ltb 735 x hx, inside)
 
 pub demand3 : Demand3
-demand3 s ram calls before m after y x formed full hy hx e p =
+demand3 s ram calls before m after y x hy hx e p =
     let b = linesIn before in
     let t = stateAfter ram b s in
     let h = heightOf (m .call) in
@@ -116,7 +133,7 @@ demand3 s ram calls before m after y x formed full hy hx e p =
     rw (l .dots (p .accepted))
     (frame-direct s ram external b h (y - b) x (omega (arith, p .last, p .first)) (omega arith)
     ∙ ap (λ (n : ℕ). directColour s ram n x (byteAt external place)) line) in
-    answers s ram y x (byteAt external place) formed full hy hx
+    answers s ram y x (byteAt external place) (r .formed (p .accepted)) (l .full (p .accepted)) hy hx
     (inside-sooner (s .registers) ram (suc y) (b + h) (s .scan) (p .last) inside)
     ∙ ap (λ (k : ℕ). colour k (directNames s ram y x)) (sym dot)
 

@@ -91,11 +91,11 @@ unfolding
     characterAdded paletteColour priorityGives mixedColour slotDots begunDots lineDots ended nextScan lineSync nextState
     paintingRefusal painted refusedPainting paint directNames
 answers = (
-  demand3 freshState ram calls [] first (second ∷ third ∷ fourth ∷ []) 1 40 refl refl (lit≤ tt) (lit≤ tt) refl
+  demand3 freshState ram calls [] first (second ∷ third ∷ fourth ∷ []) 1 40 (lit≤ tt) (lit≤ tt) refl
       (record { accepted = refl; first = lit≤ tt; last = lit≤ tt }),
-  demand3 freshState ram calls (first ∷ second ∷ []) third (fourth ∷ []) 2 48 refl refl (lit≤ tt) (lit≤ tt) refl
+  demand3 freshState ram calls (first ∷ second ∷ []) third (fourth ∷ []) 2 48 (lit≤ tt) (lit≤ tt) refl
       (record { accepted = refl; first = lit≤ tt; last = lit≤ tt }),
-  demand3 freshState ram calls (first ∷ second ∷ third ∷ []) fourth [] 4 32 refl refl (lit≤ tt) (lit≤ tt) refl
+  demand3 freshState ram calls (first ∷ second ∷ third ∷ []) fourth [] 4 32 (lit≤ tt) (lit≤ tt) refl
       (record { accepted = refl; first = lit≤ tt; last = lit≤ tt }),
 )
 

@@ -5,20 +5,23 @@ use mathlib.Core.List.{List}
 use Prim.Native.Nat.{ℕ}
 use native.Mathlib.Decide.{ℕ-discrete}
 use lib.Dec.{eqb}
+use lib.ListN.{length}
 use borrow.Author.Tests.{eqb-true, ne-eqb}
 use Rattle.lists.specs.Choice.{pick}
 use Rattle.nick.specs.Record.{stateAfter}
-use Rattle.nick.specs.Refusals.{pastEnd, paintingRefusal}
+use Rattle.nick.specs.Refusals.{illFormed, pastEnd, paintingRefusal}
 use Rattle.nick.specs.Painting.{Painting, frameDots, painted, refusedPainting, paint}
 use Rattle.nick.specs.declared.State.{State}
-use Rattle.claims.proofs.Refusals.{accepted-inside}
+use Rattle.claims.proofs.Refusals.{accepted-formed, accepted-full, accepted-inside}
 
 -- what p, a painting of h lines from s, leaves: the state after the lines that it paints, none where it is refused; no block
--- of these runs past the end; where it is accepted, their dots
+-- of these runs past the end; where it is accepted, their dots, the state being well-formed and RAM whole
 pub record Leaves (s : State) (ram : List ℕ) (h : ℕ) (external : List ℕ) (p : Painting) : Type 0 where
   pub state : p .state ≡ stateAfter ram (pick (eqb (p .refusal) 0) h 0) s
   pub inside : pastEnd (s .registers) ram (pick (eqb (p .refusal) 0) h 0) (s .scan) ≡ false
   pub dots : p .refusal ≡ 0 → p .dots ≡ frameDots ram external h s
+  pub formed : p .refusal ≡ 0 → illFormed (s .scan) ≡ false
+  pub full : p .refusal ≡ 0 → length ram ≡ 65536
 
 module _ (s : State) (ram : List ℕ) (h : ℕ) (dots records external : List ℕ) where
   -- the number that the table gives
@@ -46,12 +49,23 @@ module _ (s : State) (ram : List ℕ) (h : ℕ) (dots records external : List �
 
   accepted-leaves : given ≡ 0 → Leaves s ram h external (painted s ram h external)
   unfolding painted
-  accepted-leaves e =
-      record { state = refl; inside = accepted-inside s ram h dots records external e; dots = λ _. refl }
+  accepted-leaves e = record {
+    state = refl;
+    inside = accepted-inside s ram h dots records external e;
+    dots = λ _. refl;
+    formed = λ _. accepted-formed s ram h dots records external e;
+    full = λ _. accepted-full s ram h dots records external e;
+  }
 
   refused-leaves : (n : ℕ) → (n ≡ 0 → ⊥) → Leaves s ram h external (refusedPainting n s dots records)
   unfolding refusedPainting
-  refused-leaves n e = record { state = rw (ne-eqb n 0 e); inside = rw (ne-eqb n 0 e); dots = λ q. absurd (e q) }
+  refused-leaves n e = record {
+    state = rw (ne-eqb n 0 e);
+    inside = rw (ne-eqb n 0 e);
+    dots = λ q. absurd (e q);
+    formed = λ q. absurd (e q);
+    full = λ q. absurd (e q);
+  }
 
   pub paint-leaves : Leaves s ram h external (paint s ram h dots records external)
   paint-leaves = go (ℕ-discrete given 0)

@@ -5,6 +5,9 @@ use mathlib.Core.List.{List}
 use Prim.Native.Nat.{ℕ, zero, suc, _+_, _-_, _≤_}
 use native.Mathlib.Nat.{add-zero, add-suc}
 use native.Mathlib.Omega.{arith}
+use lib.Dec.{eqb}
+use lib.ListN.{length}
+use borrow.Author.Tests.{eqb-true, not-false}
 use Rattle.lists.specs.Choice.{pick}
 use Rattle.nick.specs.Scanline.{scanAfter}
 use Rattle.nick.specs.Refusals.{illFormed, notFull, badHeight, badDots, badRecords, badExternal, loadPastEnd, pastEnd, paintingRefusal}
@@ -57,17 +60,29 @@ inside-sooner g ram n m c h e =
     or-first (pastEnd g ram n c) (pastEnd g ram (m - n) (scanAfter g ram n c))
     (sym (past-end-add g ram n (m - n) c) ∙ rw k e)
 
--- an accepted painting's blocks lie inside RAM
-pub accepted-inside :
+module _
     (s : State) (ram : List ℕ) (h : ℕ) (dots records external : List ℕ)
-    → paintingRefusal s ram h dots records external ≡ 0
-    → pastEnd (s .registers) ram h (s .scan) ≡ false
-unfolding paintingRefusal
-accepted-inside s ram h dots records external e =
-    not-picked (pastEnd (s .registers) ram h (s .scan)) 10 0
-    (rest-zero (badExternal h external) 7 _
-    (rest-zero (badRecords h records) 6 _
-    (rest-zero (badDots h dots) 5 _
-    (rest-zero (badHeight h) 4 _
-    (rest-zero (notFull ram) 3 _
-    (rest-zero (illFormed (s .scan)) 2 _ e))))))
+    (accepted : paintingRefusal s ram h dots records external ≡ 0) where
+  -- an accepted painting starts from a well-formed state
+  pub accepted-formed : illFormed (s .scan) ≡ false
+  unfolding paintingRefusal
+  accepted-formed = not-picked (illFormed (s .scan)) 2 _ accepted
+
+  -- its RAM is whole
+  pub accepted-full : length ram ≡ 65536
+  unfolding paintingRefusal
+  accepted-full =
+      eqb-true (length ram) 65536
+      (not-false (eqb (length ram) 65536) (not-picked (notFull ram) 3 _ (rest-zero (illFormed (s .scan)) 2 _ accepted)))
+
+  -- its blocks lie inside RAM
+  pub accepted-inside : pastEnd (s .registers) ram h (s .scan) ≡ false
+  unfolding paintingRefusal
+  accepted-inside =
+      not-picked (pastEnd (s .registers) ram h (s .scan)) 10 0
+      (rest-zero (badExternal h external) 7 _
+      (rest-zero (badRecords h records) 6 _
+      (rest-zero (badDots h dots) 5 _
+      (rest-zero (badHeight h) 4 _
+      (rest-zero (notFull ram) 3 _
+      (rest-zero (illFormed (s .scan)) 2 _ accepted))))))

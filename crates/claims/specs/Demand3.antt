@@ -1,14 +1,12 @@
 -- Demand 3 (document 01, "The direct answer"): over any list of paintings the direct answer is the painted dot, and it depends
 -- on few bytes of RAM.
 use mathlib.Core.Path.{_≡_}
-use mathlib.Core.Bool.{false}
 use mathlib.Core.List.{List, [], _∷_, _++_, map}
 use Prim.Native.Nat.{ℕ, _+_, _-_, _*_, _≤_, _<_}
 use lib.Dec.{eqb}
 use lib.ListN.{length}
 use Rattle.lists.specs.Choice.{pick}
 use Rattle.nick.specs.Numbers.{byteAt}
-use Rattle.nick.specs.Refusals.{illFormed}
 use Rattle.nick.specs.Painting.{Painting, paint, paintLine}
 use Rattle.nick.specs.Direct.{direct, directNames, dependsOn, colour}
 use Rattle.nick.specs.declared.State.{State}
@@ -61,15 +59,13 @@ pub record PaintsLine (before : List Made) (m : Made) (y : ℕ) : Type 0 where
   pub first : linesIn before ≤ y
   pub last : y < linesIn before + heightOf (m .call)
 
--- The direct answer is the painted dot: from a well-formed state and with a RAM of full length, whatever calls are made, the
--- painting of line y holds at dot x the colour of the direct answer, which is no refusal and names the rules' addresses.
+-- The direct answer is the painted dot: from whatever state and RAM, and whatever calls are made, the painting of line y holds
+-- at dot x the colour of the direct answer, which is no refusal and names the rules' addresses.
 -- "A dot's external byte is the one lent for it to the painting of its line, 0 if that input is empty. This is a single claim
 -- about the list, not one for each call."
 abbrev pub Demand3 : Type 0
 Demand3 =
     (s : State) (ram : List ℕ) (calls : List Call) (before : List Made) (m : Made) (after : List Made) (y x : ℕ)
-    → illFormed (s .scan) ≡ false
-    → length ram ≡ 65536
     → y ≤ 1023
     → x ≤ 735
     → run s ram calls ≡ before ++ (m ∷ after)

@@ -10,9 +10,6 @@ use nick::Registers;
 use nick::Scan;
 use nick::State;
 
-// How many bytes a state has.
-pub const STATE_BYTES: usize = 32;
-
 // Where the chip stands in the table, from a state's bytes.
 fn decode_scan(bytes: &[u8]) -> Scan
     requires { ⌜ length (now bytes) ≡ 32 ⌝ }

@@ -3,16 +3,16 @@ mod line;
 mod text;
 
 ghost use mathlib.Core.Path.{_≡_};
-ghost use Prim.Native.Nat.{_<_, _≤_};
+ghost use Prim.Native.Nat.{_+_, _%_, _<_, _≤_};
 ghost use lib.ListN.{length};
-ghost use Rattle.nick.specs.Registers.{baseNumber};
 ghost use Rattle.nick.specs.Blocks.{blockAt, reload};
 ghost use Rattle.nick.specs.Listing.{blockLines, blocksListed, listing};
 ghost use Rattle.listing.specs.Text.{Room, Wrote};
 ghost use Rattle.listing.specs.Lines.{lineAfter, wordLine};
 ghost use Rattle.listing.specs.Lists.{Lists};
+use blocks::base_number;
+use blocks::block_at;
 use line::put_block;
-use nick::Block;
 use nick::Listed;
 use nick::Registers;
 use text::put_byte;
@@ -25,24 +25,16 @@ pub const HEADER: [u8; 10] = *b"NICKTABLE\t";
 // What its last line starts with.
 pub const END: [u8; 4] = *b"END\t";
 
-// The number of the block that a table starts with.
-fn base_number(registers: Registers) -> usize
-    ensures { λ r. ⌜ (r ≡ baseNumber registers) × (r < 4096) ⌝ }
+// The number of the block k places after the base.
+fn number_after(base: u16, k: usize) -> u16
+    requires { ⌜ k < 4096 ⌝ }
+    ensures { λ r. ⌜ (r ≡ (base + k) % 4096) × (r < 4096) ⌝ }
 {
-    registers.lph as usize % 16 * 256 + registers.lpl as usize
-}
-
-// The block with this number.
-fn block_at(ram: &[u8], number: usize) -> Block
-    requires { ⌜ (number < 4096) × (length (now ram) ≡ 65536) ⌝ }
-    ensures { λ r. ⌜ r ≡ blockAt (now (ram .entry)) number ⌝ }
-{
-    let address = 16 * number;
-    blocks::decode(&ram[address..address + 16])
+    ((base as usize + k) % 4096) as u16
 }
 
 // Whether the block with this number has RELOAD.
-fn has_reload(ram: &[u8], number: usize) -> bool
+fn has_reload(ram: &[u8], number: u16) -> bool
     requires { ⌜ (number < 4096) × (length (now ram) ≡ 65536) ⌝ }
     ensures { λ r. ⌜ r ≡ reload (blockAt (now (ram .entry)) number) ⌝ }
 {
@@ -58,7 +50,7 @@ fn blocks_listed(registers: Registers, ram: &[u8]) -> usize
     let base = base_number(registers);
     let mut k = 0;
     while k < 4096 {
-        if has_reload(ram, (base + k) % 4096) {
+        if has_reload(ram, number_after(base, k)) {
             return k + 1;
         }
         k += 1;
@@ -81,7 +73,7 @@ fn put_line(out: &mut [u8], at: usize, registers: Registers, ram: &[u8], k: usiz
     requires { ⌜ (k < 4096) × (length (now ram) ≡ 65536) × Room at (lineAfter registers (now ram) k) ⌝ }
     ensures { λ r. ⌜ Wrote (now (out .entry)) at (lineAfter registers (now (ram .entry)) k) r (now (out .exit)) ⌝ }
 {
-    let number = (base_number(registers) + k) % 4096;
+    let number = number_after(base_number(registers), k);
     put_block(out, at, number, block_at(ram, number))
 }
 
@@ -105,7 +97,7 @@ fn put_listing(out: &mut [u8], registers: Registers, ram: &[u8]) -> usize
     ensures { λ r. ⌜ Wrote (now (out .entry)) 0 (listing registers (now (ram .entry))) r (now (out .exit)) ⌝ }
 {
     let count = blocks_listed(registers, ram);
-    let at = put_word_line(out, 0, &HEADER, 16 * base_number(registers));
+    let at = put_word_line(out, 0, &HEADER, 16 * base_number(registers) as usize);
     let at = put_lines(out, at, registers, ram, count);
     put_word_line(out, at, &END, count)
 }

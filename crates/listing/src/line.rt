@@ -63,12 +63,12 @@ fn numbers_after_name(block: Block) -> [usize; 16]
 }
 
 // The line of a block with this number.
-pub fn put_block(out: &mut [u8], at: usize, number: usize, block: Block) -> usize
+pub fn put_block(out: &mut [u8], at: usize, number: u16, block: Block) -> usize
     requires { ⌜ (number < 4096) × Room at (blockLine number block) ⌝ }
     ensures { λ r. ⌜ Wrote (now (out .entry)) at (blockLine number block) r (now (out .exit)) ⌝ }
 {
     let numbers = numbers_after_name(block);
-    let at = put_decimal(out, at, 16 * number);
+    let at = put_decimal(out, at, 16 * number as usize);
     let at = put_field(out, at, 256 - block.sc as usize);
     let at = put_byte(out, at, TAB);
     let at = put_name(out, at, block.mb as usize / 2 % 8);

@@ -48,7 +48,11 @@ slots lm rm =
 abbrev pub activeDots : ℕ → ℕ → List ℕ → List ℕ
 activeDots lm rm dots = map (λ x. number (activeAt (block 14 lm rm) (x / 16))) dots
 
--- a scan inside a mode line's end, at block 4,095, with no reload pending
+-- LPL 255, LPH 255
+abbrev pub lastBase : Registers
+lastBase = record { fixbias = 0; border = 0; lpl = 255; lph = 255 }
+
+-- a scan at a mode line's end, at block 4,095 without RELOAD, with no reload pending
 abbrev pub atLastBlock : Scan
 atLastBlock = record { pending = false; block = zeroBlock; number = 4095; at = zeroPointers; left = 0 }
 
@@ -109,7 +113,7 @@ examples =
     ∷ record { got = activeDots 10 52 (31 ∷ 32 ∷ 703 ∷ 704 ∷ []); want = 0 ∷ 1 ∷ 1 ∷ 0 ∷ [] }
     -- P10 LPL 255, LPH 255: block at 65,520; next without RELOAD at 0.
     ∷ record {
-      got = 16 * baseNumber (record { fixbias = 0; border = 0; lpl = 255; lph = 255 }) ∷ 16 * loadedNumber (fixbias 0) atLastBlock ∷ [];
+      got = 16 * baseNumber lastBase ∷ 16 * loadedNumber lastBase atLastBlock ∷ [];
       want = 65520 ∷ 0 ∷ [];
     }
     -- P11 sequence above: sync counts 0, 0, 0, 51, 57, 32, then 0.

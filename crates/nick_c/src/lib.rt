@@ -9,10 +9,12 @@ mod answer;
 
 use answer::packed_answer;
 use answer::packed_listed;
-use encoding::STATE_BYTES;
 use encoding::decode_state;
 use encoding::encode_state;
 use nick::State;
+
+// How many bytes a state has.
+const STATE_BYTES: usize = 32;
 
 // Stores the state after a call, unless it was refused, and answers the refusal.
 fn keep(refusal: u8, next: State, state: &mut [u8]) -> u32

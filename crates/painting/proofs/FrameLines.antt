@@ -1,5 +1,5 @@
 -- Laws on the lines of a frame: one line more, all lines, and what an accepted painting has.
-use mathlib.Core.Path.{_≡_, sym, _∙_}
+use mathlib.Core.Path.{_≡_, sym, ap, _∙_}
 use mathlib.Core.List.{List, _++_}
 use Prim.Native.Nat.{ℕ, suc, _+_, _*_, _≤_, _<_}
 use native.Mathlib.Numerals.{add-one}
@@ -7,7 +7,7 @@ use native.Mathlib.Omega.{arith}
 use lib.Dec.{eqb, ltb}
 use lib.ListN.{length, take, drop, replicate}
 use borrow.Author.Tests.{ltb-false, eqb-true, not-false}
-use Rattle.lists.proofs.Laws.{lent}
+use Rattle.lists.proofs.Laws.{lent, front-all}
 use Rattle.nick.specs.Scanline.{lineDots}
 use Rattle.nick.specs.Record.{lineRecord, nextState, stateAfter}
 use Rattle.nick.specs.Refusals.{illFormed, notFull, badHeight, badDots, badRecords, paintingRefusal}
@@ -16,9 +16,9 @@ use Rattle.nick.specs.declared.State.{State}
 use Rattle.nick.proofs.WellFormed.{next-number, next-left}
 use Rattle.claims.proofs.Scanlines.{registers-kept}
 use Rattle.claims.proofs.Frames.{length-dots, length-records}
-use Rattle.claims.proofs.Refusals.{not-picked, rest-zero, or-first, or-rest}
+use Rattle.claims.proofs.Refusals.{not-picked, rest-zero, or-first, or-rest, accepted-formed, accepted-full}
 use Rattle.claims.proofs.Paintings.{accepted-is, refused-is}
-use Rattle.painting.specs.Frames.{Accepted, Frame, Paints}
+use Rattle.painting.specs.Frames.{Accepted, NextLine, Frame, Paints}
 
 -- the state after a scanline is well-formed
 pub next-formed : (ram : List ℕ) (s : State) → s .registers .lpl < 256 → s .scan .number < 4096 → s .scan .left ≤ 256
@@ -26,27 +26,65 @@ pub next-formed : (ram : List ℕ) (s : State) → s .registers .lpl < 256 → s
 unfolding nextState
 next-formed ram s h n l = (next-number (s .registers) ram (s .scan) h n, next-left (s .registers) ram (s .scan) l)
 
-module _ (ram external : List ℕ) (s t : State) (y : ℕ) (after : t ≡ stateAfter ram y s) where
-  -- one line more, painted into its part of the dots
-  pub dots-more : (d out : List ℕ)
-      → out ≡ frameDots ram external y s ++ drop (736 * y) d
-      → take (736 * y) out ++ (lineDots (t .registers) ram (t .scan) (externalAt external y) ++ drop 736 (drop (736 * y) out))
-      ≡ frameDots ram external (y + 1) s ++ drop (736 * (y + 1)) d
-  dots-more d out e =
-      let next : 736 * suc y ≡ 736 * y + 736 = omega arith in
-      rw (e, after, registers-kept ram y s, add-one y, next)
-      (lent (frameDots ram external y s) d (lineDots (s .registers) ram (stateAfter ram y s .scan) (externalAt external y)) (736 * y) 736
-      (length-dots ram external s y))
+-- what a loop over the lines keeps: after y of h lines from s, these are painted, and the rest of both buffers is as it was
+pub record Passed (s : State) (ram external : List ℕ) (h : ℕ) (dots₀ records₀ : List ℕ) (y : ℕ) (dots₁ records₁ : List ℕ) (t : State) : Type 0 where
+  pub most : y ≤ h
+  pub places : length dots₁ ≡ length dots₀
+  pub bytes : length records₁ ≡ length records₀
+  pub state : t ≡ stateAfter ram y s
+  pub dots : dots₁ ≡ frameDots ram external y s ++ drop (736 * y) dots₀
+  pub records : records₁ ≡ frameRecords ram y s ++ drop (4 * y) records₀
+  pub number : t .scan .number < 4096
+  pub left : t .scan .left ≤ 256
 
-  -- and its record into its part of the records
-  pub records-more : (d out : List ℕ)
-      → out ≡ frameRecords ram y s ++ drop (4 * y) d
-      → take (4 * y) out ++ (lineRecord ram t ++ drop 4 (drop (4 * y) out))
-      ≡ frameRecords ram (y + 1) s ++ drop (4 * (y + 1)) d
-  records-more d out e =
-      let next : 4 * suc y ≡ 4 * y + 4 = omega arith in
-      rw (e, after, add-one y, next)
-      (lent (frameRecords ram y s) d (lineRecord ram (stateAfter ram y s)) (4 * y) 4 (length-records ram s y))
+module _ (s : State) (ram external : List ℕ) (h : ℕ) (dots₀ records₀ : List ℕ) where
+  module _ {y : ℕ} {dots₁ records₁ : List ℕ} {t : State} (p : Passed s ram external h dots₀ records₀ y dots₁ records₁ t) where
+    -- the next line's dots, in their part of the buffer
+    dots-more :
+        take (736 * y) dots₁ ++ (lineDots (t .registers) ram (t .scan) (externalAt external y) ++ drop 736 (drop (736 * y) dots₁))
+        ≡ frameDots ram external (suc y) s ++ drop (736 * suc y) dots₀
+    dots-more =
+        let next : 736 * suc y ≡ 736 * y + 736 = omega arith in
+        rw (p .dots, p .state, registers-kept ram y s, next)
+        (lent (frameDots ram external y s) dots₀ (lineDots (s .registers) ram (stateAfter ram y s .scan) (externalAt external y)) (736 * y) 736
+        (length-dots ram external s y))
+
+    -- and its record
+    records-more :
+        take (4 * y) records₁ ++ (lineRecord ram t ++ drop 4 (drop (4 * y) records₁))
+        ≡ frameRecords ram (suc y) s ++ drop (4 * suc y) records₀
+    records-more =
+        let next : 4 * suc y ≡ 4 * y + 4 = omega arith in
+        rw (p .records, p .state, next)
+        (lent (frameRecords ram y s) records₀ (lineRecord ram (stateAfter ram y s)) (4 * y) 4 (length-records ram s y))
+
+    -- one line more
+    pub passed-more : {dots₂ records₂ : List ℕ} {u : State}
+        → y < h
+        → length dots₂ ≡ length dots₁
+        → length records₂ ≡ length records₁
+        → NextLine t ram y external dots₁ dots₂ records₁ records₂ u
+        → Passed s ram external h dots₀ records₀ (y + 1) dots₂ records₂ u
+    passed-more l d r e = rw (add-one y) (record {
+      most = l;
+      places = d ∙ p .places;
+      bytes = r ∙ p .bytes;
+      state = e .state ∙ ap (nextState ram) (p .state);
+      dots = e .dots ∙ dots-more;
+      records = e .records ∙ records-more;
+      number = e .number;
+      left = e .left;
+    })
+
+    -- all lines
+    pub passed-all : h ≤ y → length dots₀ ≡ 736 * h → length records₀ ≡ 4 * h → Frame s ram h external dots₁ records₁ t
+    passed-all l d r =
+        let all : y ≡ h = omega (arith, p .most) in
+        rw (← all) (record {
+          dots = p .dots ∙ front-all (frameDots ram external y s) dots₀ (736 * y) (omega (arith, all));
+          records = p .records ∙ front-all (frameRecords ram y s) records₀ (4 * y) (omega (arith, all));
+          state = p .state;
+        })
 
 -- what the refusal table says of a painting that is not refused
 pub accepted-facts : (s : State) (ram : List ℕ) (h : ℕ) (dots records external : List ℕ)
@@ -54,11 +92,10 @@ pub accepted-facts : (s : State) (ram : List ℕ) (h : ℕ) (dots records extern
     → Accepted s ram h dots records
 unfolding paintingRefusal
 accepted-facts s ram h dots records external e =
-    let e₄ = rest-zero (illFormed (s .scan)) 2 _ e in
-    let e₅ = rest-zero (notFull ram) 3 _ e₄ in
+    let e₅ = rest-zero (notFull ram) 3 _ (rest-zero (illFormed (s .scan)) 2 _ e) in
     let e₆ = rest-zero (badHeight h) 4 _ e₅ in
     let e₇ = rest-zero (badDots h dots) 5 _ e₆ in
-    let formed = not-picked (illFormed (s .scan)) 2 _ e in
+    let formed = accepted-formed s ram h dots records external e in
     let height = not-picked (badHeight h) 4 _ e₅ in
     let left = ltb-false 256 (s .scan .left) (or-first (ltb 256 (s .scan .left)) (ltb 4095 (s .scan .number)) formed) in
     let number = ltb-false 4095 (s .scan .number) (or-rest (ltb 256 (s .scan .left)) (ltb 4095 (s .scan .number)) formed) in
@@ -66,7 +103,7 @@ accepted-facts s ram h dots records external e =
     record {
       number = omega arith;
       left = left;
-      full = eqb-true (length ram) 65536 (not-false (eqb (length ram) 65536) (not-picked (notFull ram) 3 _ e₄));
+      full = accepted-full s ram h dots records external e;
       height = most;
       places = eqb-true (length dots) (736 * h) (not-false (eqb (length dots) (736 * h)) (not-picked (badDots h dots) 5 _ e₆));
       bytes = eqb-true (length records) (4 * h) (not-false (eqb (length records) (4 * h)) (not-picked (badRecords h records) 6 _ e₇));

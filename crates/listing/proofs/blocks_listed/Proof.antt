@@ -19,8 +19,8 @@ base-number-requires c κs = search needs
 loop-holds : tie.Need-loop-holds Inv-loop μ-loop
 loop-holds c = omega arith
 
-add-has-reload : tie.Need-add-has-reload Inv-loop μ-loop
-add-has-reload c = search needs
+number-after-requires : tie.Need-number-after-requires Inv-loop μ-loop
+number-after-requires c κs = search needs
 
 has-reload-requires : tie.Need-has-reload-requires Inv-loop μ-loop
 has-reload-requires c κs = search needs
@@ -30,13 +30,13 @@ add-result c = search needs
 
 returns : tie.Need-returns Inv-loop μ-loop
 returns c =
-    let start = c .before .before .before .before .before .before in
+    let start = c .before .before .before .before .before .before .before in
     let ram = start .args .ram .now in
-    let base = c .before .before .before .before .base-number in
+    let base = c .before .before .before .before .before .base-number in
     omega (
       arith,
       listed-after (start .args .registers) ram (base .result) (base .ensures .0) (base .ensures .1),
-      after-reload 4096 ram (base .result) (c .before .before .before .loop .k) (omega arith) (sym (c .before .has-reload .ensures) ∙ c .if1 .taken),
+      after-reload 4096 ram (base .result) (c .before .before .before .before .loop .k) (omega arith) (rw (c .before .before .number-after .ensures .0) at (sym (c .before .has-reload .ensures) ∙ c .if1 .taken)),
     )
 
 add-k : tie.Need-add-k Inv-loop μ-loop
@@ -49,7 +49,7 @@ loop-again : tie.Need-loop-again Inv-loop μ-loop
 loop-again c =
     omega (
       arith,
-      after-more 4096 (c .before .before .before .before .before .before .args .ram .now) (c .before .before .before .before .base-number .result) (c .before .before .before .loop .k) (omega arith) (sym (c .before .has-reload .ensures) ∙ c .if1 .left),
+      after-more 4096 (c .before .before .before .before .before .before .before .args .ram .now) (c .before .before .before .before .before .base-number .result) (c .before .before .before .before .loop .k) (omega arith) (rw (c .before .before .number-after .ensures .0) at (sym (c .before .has-reload .ensures) ∙ c .if1 .left)),
     )
 
 returns-2 : tie.Need-returns-2 Inv-loop μ-loop
@@ -71,7 +71,7 @@ blocks-listed-spec =
     μ-loop
     base-number-requires
     loop-holds
-    add-has-reload
+    number-after-requires
     has-reload-requires
     add-result
     returns

@@ -48,6 +48,9 @@ slice-aggregate-put-word-line c = search needs
 base-number-requires : tie.Need-base-number-requires
 base-number-requires c κs = search needs
 
+cast-put-word-line : tie.Need-cast-put-word-line
+cast-put-word-line c = search needs
+
 mul-put-word-line : tie.Need-mul-put-word-line
 mul-put-word-line c = search needs
 
@@ -77,6 +80,7 @@ put-listing-spec =
     blocks-listed-requires
     slice-aggregate-put-word-line
     base-number-requires
+    cast-put-word-line
     mul-put-word-line
     put-word-line-requires
     put-lines-requires
