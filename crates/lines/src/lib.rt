@@ -1,10 +1,11 @@
 // Painting line by line into whole buffers.
 ghost use mathlib.Core.Path.{_≡_};
-ghost use Prim.Native.Nat.{_+_, _*_, _<_, _≤_, min};
+ghost use Prim.Native.Nat.{_+_, _*_, _<_, _≤_};
 ghost use lib.ListN.{length};
 ghost use Rattle.painting.specs.Frames.{NextLine, Frame};
 ghost use Rattle.lines.specs.Ready.{Sizes, Ready};
 ghost use Rattle.lines.specs.Refusals.{runRefusal};
+use lists::smaller;
 use nick::State;
 
 // The refusal of a run, 0 for none, given that of its register writes: the tests in the order of their numbers. The fresh
@@ -28,13 +29,6 @@ pub fn refusal(writes: u8, ram: &[u8], height: usize, external: &[u8]) -> u8
         return 0;
     }
     if external.len() == 736 * height { 0 } else { 8 }
-}
-
-// The smaller of two numbers.
-fn smaller(a: usize, b: usize) -> usize
-    ensures { λ r. ⌜ r ≡ min a b ⌝ }
-{
-    if a < b { a } else { b }
 }
 
 // Paints line `y` into its parts of the buffers; it is never refused.

@@ -1,6 +1,6 @@
 // Helpers that every layer uses.
 ghost use mathlib.Core.Path.{_≡_};
-ghost use Prim.Native.Nat.{_≤_};
+ghost use Prim.Native.Nat.{_≤_, min};
 ghost use lib.ListN.{length, replicate};
 ghost use Rattle.lists.specs.Choice.{number};
 
@@ -20,4 +20,11 @@ pub fn bit(b: bool) -> u8
     ensures { λ r. ⌜ (r ≡ number b) × (r ≤ 1) ⌝ }
 {
     if b { 1 } else { 0 }
+}
+
+// The smaller of two numbers.
+pub fn smaller(a: usize, b: usize) -> usize
+    ensures { λ r. ⌜ r ≡ min a b ⌝ }
+{
+    if a < b { a } else { b }
 }

@@ -3,6 +3,7 @@ ghost use Prim.Native.Nat.{_+_, _≤_};
 ghost use Rattle.cases.specs.Head.{Drawn};
 ghost use Rattle.random_frames.specs.Lengths.{Lent};
 use cases::Head;
+use lists::smaller;
 use nick::State;
 
 // A call: of one line or of `height` lines, from a state, with buffers of these lengths.
@@ -27,13 +28,6 @@ fn wide(byte: u8) -> usize
     ensures { λ r. ⌜ r ≤ 255 ⌝ }
 {
     byte as usize
-}
-
-// The smaller of two numbers.
-pub fn smaller(a: usize, b: usize) -> usize
-    ensures { λ r. ⌜ (r ≤ a) × (r ≤ b) ⌝ }
-{
-    if a < b { a } else { b }
 }
 
 // Both heights, wrong by trouble 3.

@@ -7,8 +7,8 @@ ghost use lib.ListN.{length};
 ghost use Rattle.random_frames.specs.Lengths.{Lent, Whole};
 use call::Call;
 use call::call_of;
-use call::smaller;
 use cases::Source;
+use lists::smaller;
 use nick::Painted;
 
 // Repeats external input from byte 5,888 on.

@@ -1,7 +1,6 @@
 // The line record's first and last byte.
 ghost use mathlib.Core.Path.{_≡_};
 ghost use mathlib.Core.Bool.{_&&_, not};
-ghost use Prim.Native.Nat.{min, max};
 ghost use Rattle.nick.specs.Record.{flags, fetchingSlots};
 use lists::bit;
 use nick::Block;
@@ -27,20 +26,6 @@ pub fn flag_byte(block: Block, was_low: bool, load: bool, last: bool) -> u8
         + 32 * bit(mode == 6)
 }
 
-// The larger of two numbers.
-fn larger(a: u8, b: u8) -> u8
-    ensures { λ r. ⌜ r ≡ max a b ⌝ }
-{
-    if a < b { b } else { a }
-}
-
-// The smaller of two numbers.
-fn smaller(a: u8, b: u8) -> u8
-    ensures { λ r. ⌜ r ≡ min a b ⌝ }
-{
-    if a < b { a } else { b }
-}
-
 // Byte 3: the active slots, in modes that fetch.
 pub fn slots_byte(block: Block) -> u8
     ensures { λ r. ⌜ r ≡ fetchingSlots block ⌝ }
@@ -52,7 +37,5 @@ pub fn slots_byte(block: Block) -> u8
     if mode == 6 {
         return 0;
     }
-    let left = larger(block.lm % 64, 8);
-    let right = smaller(block.rm % 64, 54);
-    if left < right { right - left } else { 0 }
+    walk::active_before(block, 46) as u8
 }
