@@ -1,4 +1,1 @@
-pub mod DotSlots
-pub mod Scanlines
 pub mod FrameLines
-pub mod Idle

@@ -7,12 +7,9 @@ ghost use Rattle.nick.specs.Refusals.{paintingRefusal};
 ghost use mathlib.Core.Bool.{_||_};
 ghost use lib.Dec.{eqb};
 ghost use Rattle.painting.specs.Frames.{Accepted, NextLine, Frame, Paints};
-
-mod line;
-
-use line::paint_scanline;
 use nick::Painted;
 use nick::State;
+use scanline::paint_scanline;
 
 // External input is empty, or one byte for each dot.
 fn external_fits(length: usize, height: usize) -> bool

@@ -17,9 +17,9 @@ use Rattle.nick.specs.Colour.{two, coloursNumbered}
 use Rattle.colour.specs.Cell.{cellPixel}
 use Rattle.colour.specs.declared.Cell.{Cell}
 use Rattle.colour.proofs.Pixels.{at-two-low, at-two-high, at-four, at-sixteen, at-all}
-use Rattle.slots.specs.Fetches.{slotPixel}
+use Rattle.fetch.specs.Fetches.{slotPixel}
 use Rattle.slots.specs.Shows.{runs, twoShown, fourShown, sixteenShown, pixelShown, cellDots, plainDots}
-use Rattle.slots.specs.declared.fetch.Fetched.{Fetched}
+use Rattle.fetch.specs.declared.Fetched.{Fetched}
 use Rattle.slots.proofs.Runs.{length-runs}
 
 -- pixels of the same colours

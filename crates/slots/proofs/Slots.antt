@@ -38,10 +38,10 @@ use Rattle.nick.specs.declared.Pixel.{Pixel}
 use Rattle.nick.specs.declared.Pixel.the-variants.{Palette, Direct}
 use Rattle.colour.specs.Cell.{cellPixel, paletteNumber, paletteOf}
 use Rattle.colour.proofs.Cells.{graphics-pixel, character-pixel, attribute-pixel, sharing-halves, cell-below}
-use Rattle.slots.specs.Fetches.{fetchedIn, fetchedAt, slotPixel}
+use Rattle.fetch.specs.Fetches.{fetchedIn, fetchedAt, slotPixel}
 use Rattle.slots.specs.Shows.{pixelShown, plainDots, mixedDot, mixedDots, fetchedDots}
 use Rattle.slots.specs.Slots.{AnySlot}
-use Rattle.slots.specs.declared.fetch.Fetched.{Fetched}
+use Rattle.fetch.specs.declared.Fetched.{Fetched}
 
 -- a slot's palette numbers are below 16, whatever its cells hold
 pub slot-below : (f : Fetched) (j : ℕ) → paletteNumber (slotPixel f j) < 16

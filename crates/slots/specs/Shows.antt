@@ -16,8 +16,8 @@ use Rattle.nick.specs.declared.Pixel.{Pixel}
 use Rattle.nick.specs.declared.Pixel.the-variants.{Palette, Direct}
 use Rattle.colour.specs.Cell.{cellPixel}
 use Rattle.colour.specs.declared.Cell.{Cell}
-use Rattle.slots.specs.Fetches.{slotPixel}
-use Rattle.slots.specs.declared.fetch.Fetched.{Fetched}
+use Rattle.fetch.specs.Fetches.{slotPixel}
+use Rattle.fetch.specs.declared.Fetched.{Fetched}
 
 -- n pixels of the colours g 0, g 1, .. , each in `run` dots
 unfoldable pub runs : (ℕ → ℕ) → ℕ → ℕ → List ℕ

@@ -7,11 +7,10 @@ ghost use Rattle.nick.specs.Slots.{modeOf};
 ghost use Rattle.nick.specs.Scanline.{activeAt};
 ghost use Rattle.nick.specs.Sync.{syncs};
 ghost use Rattle.colour.specs.Cell.{paletteOf};
-ghost use Rattle.slots.specs.Fetches.{fetchedAt};
+ghost use Rattle.fetch.specs.Fetches.{fetchedAt};
 ghost use Rattle.slots.specs.Shows.{fetchedDots};
 ghost use Rattle.slots.specs.Slots.{AnySlot};
 
-mod fetch;
 mod show;
 
 use fetch::Fetched;

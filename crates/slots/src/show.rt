@@ -7,7 +7,7 @@ ghost use lib.ListN.{length, set, take, drop, replicate};
 ghost use Rattle.lists.specs.Choice.{pick};
 ghost use Rattle.nick.specs.Numbers.{bit, byteAt};
 ghost use Rattle.colour.specs.Cell.{paletteOf};
-ghost use Rattle.slots.specs.Fetches.{slotPixel};
+ghost use Rattle.fetch.specs.Fetches.{slotPixel};
 ghost use Rattle.slots.specs.Shows.{
   runs,
   twoShown,
@@ -18,8 +18,8 @@ ghost use Rattle.slots.specs.Shows.{
   mixedDot,
   mixedDots,
 };
-use crate::fetch::Fetched;
 use colour::Cell;
+use fetch::Fetched;
 use nick::Block;
 use nick::Pixel;
 use nick::Registers;

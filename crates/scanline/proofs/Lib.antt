@@ -1,0 +1,3 @@
+pub mod DotSlots
+pub mod Scanlines
+pub mod Idle

@@ -1,0 +1,65 @@
+-- Laws that put a scanline's parts together: its dots, its record, the state after it.
+use mathlib.Core.Path.{_≡_, refl}
+use mathlib.Core.Bool.{Bool, true, false}
+use mathlib.Core.List.{List, [], _∷_}
+use Prim.Native.Nat.{ℕ, _+_, _-_, _*_, _/_, _%_}
+use lib.Dec.{eqb}
+use lib.ListN.{length, length-append}
+use Rattle.lists.specs.Choice.{pick}
+use Rattle.lists.proofs.Laws.{length-tab}
+use Rattle.nick.specs.Blocks.{loads, loadedNumber, blockAddresses, begun}
+use Rattle.nick.specs.Slots.{modeOf, linePointers}
+use Rattle.nick.specs.Scanline.{begunDots, lineDots, begunFetches, lineFetches, ended, nextScan}
+use Rattle.nick.specs.Sync.{lineSync, lineSyncCount}
+use Rattle.nick.specs.Record.{flags, fetchingSlots, lineRecord, nextState}
+use Rattle.nick.specs.declared.Pointers.{Pointers}
+use Rattle.nick.specs.declared.Scan.{Scan}
+use Rattle.nick.specs.declared.State.{State}
+use Rattle.scanline.specs.Lines.{slotsEnd}
+
+-- the fetches of a load
+pub load-length : (t : Bool) (n : ℕ) → length (pick t (blockAddresses n) []) ≡ pick t 16 0
+unfolding blockAddresses
+load-length true n = length-tab (λ i. 16 * n + i) 16
+load-length false n = refl
+
+module _ (s : State) (ram : List ℕ) (c : Scan) (begins : c ≡ begun (s .registers) ram (s .scan)) where
+  pub dots-are : (ext : ℕ → ℕ) → begunDots (s .registers) ram c ext ≡ lineDots (s .registers) ram (s .scan) ext
+  unfolding lineDots
+  dots-are ext = rw begins
+
+  pub state-is : (p : Pointers) (on : Bool)
+      → p ≡ linePointers (modeOf (c .block)) (slotsEnd c)
+      → on ≡ lineSync (c .block) (s .sync)
+      → _≡_ {A = State}
+      (record {
+        registers = s .registers;
+        scan = record { pending = c .pending; block = c .block; number = c .number; at = p; left = c .left - 1 };
+        virq = eqb (c .block .mb / 128 % 2) 1;
+        sync = on;
+      })
+      (nextState ram s)
+  unfolding nextState nextScan ended slotsEnd
+  state-is p on hp hon = rw (hp, hon, begins)
+
+  pub record-is : (load : Bool) (f l k y n : ℕ)
+      → load ≡ loads (s .scan)
+      → f ≡ flags (c .block) (s .virq) load (eqb (c .left - 1) 0)
+      → y ≡ lineSyncCount (c .block) (s .sync)
+      → l ≡ pick load 16 0
+      → k ≡ length (begunFetches ram c)
+      → n ≡ fetchingSlots (c .block)
+      → f ∷ y ∷ (l + k) ∷ n ∷ [] ≡ lineRecord ram s
+  unfolding lineRecord lineFetches nextScan ended
+  record-is load f l k y n hload hf hy hl hk hn =
+      rw (
+        hf,
+        hy,
+        hl,
+        hk,
+        hn,
+        hload,
+        begins,
+        length-append (pick (loads (s .scan)) (blockAddresses (loadedNumber (s .registers) (s .scan))) []) (begunFetches ram (begun (s .registers) ram (s .scan))),
+        load-length (loads (s .scan)) (loadedNumber (s .registers) (s .scan)),
+      )

@@ -1,0 +1,173 @@
+// One scanline: its dots, its record and the state after it.
+ghost use mathlib.Core.Path.{_≡_};
+ghost use Prim.Native.Nat.{_+_, _*_, _-_, _<_, _≤_};
+ghost use lib.ListN.{length};
+ghost use Rattle.lists.specs.Choice.{pick};
+ghost use Rattle.nick.specs.Slots.{modeOf, linePointers};
+ghost use mathlib.Core.List.{_∷_, []};
+ghost use Rattle.colour.specs.Cell.{paletteOf};
+ghost use Rattle.scanline.specs.Lines.{NextSlot, Slots, Line};
+use nick::Block;
+use nick::Pointers;
+use nick::Registers;
+use nick::Scan;
+use nick::State;
+use records::flag_byte;
+use records::slots_byte;
+use records::sync_line;
+use slots::Slot;
+use slots::paint_slot;
+
+// Paints dot slot `n` into its part of the scanline, and counts its fetches.
+fn next_slot(
+    registers: Registers,
+    palette: &[u8],
+    ram: &[u8],
+    block: Block,
+    n: usize,
+    slot: Slot,
+    out: &mut [u8],
+    external: &[u8],
+    line: usize,
+) -> Slot
+    requires { ⌜ (now palette ≡ paletteOf registers block) × (length (now ram) ≡ 65536) × (n < 46) × (length (now out) ≡ 736) × (line ≤ 752928) × (slot .fetched ≤ 2 * n) ⌝ }
+    ensures { λ r. ⌜ NextSlot registers (now (ram .entry)) block n slot (now (external .entry)) line (now (out .entry)) (now (out .exit)) r ⌝ }
+{
+    let a = 16 * n;
+    let e = a + 16;
+    let at = slot.at;
+    let next = paint_slot(
+        registers,
+        palette,
+        ram,
+        block,
+        n,
+        at,
+        &mut out[a..e],
+        external,
+        line,
+    );
+    let at = next.at;
+    Slot {
+        at,
+        fetched: slot.fetched + next.fetched,
+    }
+}
+
+// Paints the 46 dot slots of a scanline that has begun, with its palette.
+fn slots_in_order(
+    registers: Registers,
+    palette: &[u8],
+    ram: &[u8],
+    begun: Scan,
+    out: &mut [u8],
+    external: &[u8],
+    line: usize,
+) -> Slot
+    requires { ⌜ (now palette ≡ paletteOf registers (begun .block)) × (length (now ram) ≡ 65536) × (length (now out) ≡ 736) × (line ≤ 752928) ⌝ }
+    ensures { λ r. ⌜ Slots registers (now (ram .entry)) begun (now (external .entry)) line (now (out .exit)) r ⌝ }
+{
+    let block = begun.block;
+    let at = begun.at;
+    let mut slot = Slot { at, fetched: 0 };
+    let mut n = 0;
+    while n < 46 {
+        slot = next_slot(registers, palette, ram, block, n, slot, out, external, line);
+        n += 1;
+    }
+    slot
+}
+
+// Paints the 46 dot slots of a scanline that has begun; where no slot fetches, all at once.
+fn paint_slots(
+    registers: Registers,
+    ram: &[u8],
+    begun: Scan,
+    out: &mut [u8],
+    external: &[u8],
+    line: usize,
+) -> Slot
+    requires { ⌜ (length (now ram) ≡ 65536) × (length (now out) ≡ 736) × (line ≤ 752928) ⌝ }
+    ensures { λ r. ⌜ Slots registers (now (ram .entry)) begun (now (external .entry)) line (now (out .exit)) r ⌝ }
+{
+    let block = begun.block;
+    if slots_byte(block) == 0 {
+        lists::fill(out, slots::outside(registers, block));
+        let at = begun.at;
+        return Slot { at, fetched: 0 };
+    }
+    let mut palette = [0u8; 16];
+    colour::put_palette(registers, block, &mut palette);
+    slots_in_order(registers, &palette, ram, begun, out, external, line)
+}
+
+// The pointers after a scanline's slots: LD2 of a character mode goes up.
+fn end_pointers(block: Block, at: Pointers) -> Pointers
+    ensures { λ r. ⌜ r ≡ linePointers (modeOf block) at ⌝ }
+{
+    let mode = block.mb / 2 % 8;
+    match mode {
+        3..=5 => Pointers {
+            ld1: at.ld1,
+            ld2: std::num::wrapping_add_u16(at.ld2, 1),
+        },
+        _ => at,
+    }
+}
+
+// The bytes that a load fetches.
+fn load_fetches(load: bool) -> u8
+    ensures { λ r. ⌜ (r ≡ pick load 16 0) × (r ≤ 16) ⌝ }
+{
+    if load { 16 } else { 0 }
+}
+
+// Writes the four bytes of a line record.
+fn put_record(recorded: &mut [u8], flags: u8, sync: u8, fetched: u8, slots: u8)
+    requires { ⌜ length (now recorded) ≡ 4 ⌝ }
+    ensures { λ r. ⌜ now (recorded .exit) ≡ flags ∷ sync ∷ fetched ∷ slots ∷ [] ⌝ }
+{
+    recorded[0] = flags;
+    recorded[1] = sync;
+    recorded[2] = fetched;
+    recorded[3] = slots;
+}
+
+// Paints the next scanline; its external bytes are from `line` on.
+pub fn paint_scanline(
+    state: State,
+    ram: &[u8],
+    dots: &mut [u8],
+    recorded: &mut [u8],
+    external: &[u8],
+    line: usize,
+) -> State
+    requires { ⌜ (length (now ram) ≡ 65536) × (length (now dots) ≡ 736) × (length (now recorded) ≡ 4) × (line ≤ 752928) ⌝ }
+    requires { ⌜ (state .scan .number < 4096) × (state .scan .left ≤ 256) ⌝ }
+    ensures { λ r. ⌜ Line state (now (ram .entry)) (now (external .entry)) line (now (dots .exit)) (now (recorded .exit)) r ⌝ }
+{
+    let registers = state.registers;
+    let scan = state.scan;
+    let load = blocks::is_loading(scan);
+    let begun = blocks::begin(registers, ram, scan);
+    let block = begun.block;
+    let slot = paint_slots(registers, ram, begun, dots, external, line);
+    let at = end_pointers(block, slot.at);
+    let scan = Scan {
+        pending: begun.pending,
+        block,
+        number: begun.number,
+        at,
+        left: begun.left - 1,
+    };
+    let sync = sync_line(block, state.sync);
+    let flags = flag_byte(block, state.virq, load, scan.left == 0);
+    let fetched = load_fetches(load) + slot.fetched;
+    put_record(recorded, flags, sync.count, fetched, slots_byte(block));
+    State {
+        registers,
+        scan,
+        virq: block.mb / 128 % 2 == 1,
+        sync: sync.on,
+    }
+}
