@@ -113,6 +113,10 @@ fn run_frame(case: u64, buffers: &mut Buffers, digest: &mut Digest, tally: &mut 
     let external = &buffers.external[..call.external];
     dots.fill(170);
     records.fill(85);
+    digest.byte(u8::from(call.single));
+    digest.number(call.asked);
+    digest.given(&call.state, ram);
+    digest.bytes(external);
     let mut state = call.state;
     let refusal = if call.single {
         nick::paint_line(&mut state, ram, dots, records, external)
@@ -138,8 +142,12 @@ fn run_dots(case: u64, buffers: &mut Buffers, digest: &mut Digest, tally: &mut T
     let state = head.troubled_state();
     let ram = &buffers.ram[..head.ram_length()];
     let mut told = format!("ram {} state {state:?}", ram.len());
+    digest.given(&state, ram);
     for _ in 0..QUESTIONS {
         let question = Question::draw(&mut random);
+        digest.number(question.line);
+        digest.number(question.dot);
+        digest.byte(question.external);
         let answer = nick::ask_dot(&state, ram, question.line, question.dot, question.external);
         tally.add(answer.err().unwrap_or(0));
         digest_answer(digest, &answer);
@@ -173,6 +181,7 @@ fn run_listing(case: u64, buffers: &mut Buffers, digest: &mut Digest, tally: &mu
     lengthen_table(head.flavour, &mut buffers.ram);
     let state = head.troubled_state();
     let ram = &buffers.ram[..head.ram_length()];
+    digest.given(&state, ram);
     let first = list_into(&state, ram, &mut buffers.text, digest);
     let lent = output_length(kind, more, first.unwrap_or(0));
     let second = list_into(&state, ram, &mut buffers.text[..lent], digest);
@@ -190,7 +199,7 @@ fn list_into(state: &State, ram: &[u8], out: &mut [u8], digest: &mut Digest) -> 
     out.fill(170);
     let answer = nick::list_table(state, ram, out);
     digest.byte(answer.err().unwrap_or(0));
-    digest.bytes(&(answer.unwrap_or(0) as u32).to_le_bytes());
+    digest.number(answer.unwrap_or(0) as u32);
     digest.bytes(out);
     answer
 }
@@ -200,8 +209,11 @@ fn run_writes(case: u64, _: &mut Buffers, digest: &mut Digest, tally: &mut Tally
     let head = Head::draw(&mut random);
     let mut state = head.troubled_state();
     let mut told = format!("state {state:?}");
+    digest.state(&state);
     for _ in 0..WRITES_PER_CASE {
         let write = Write::draw(&mut random);
+        digest.number(write.port);
+        digest.byte(write.data);
         let refusal = nick::write_register(&mut state, write.port, write.data);
         tally.add(refusal);
         digest.byte(refusal);

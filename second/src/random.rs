@@ -81,8 +81,19 @@ impl Digest {
         }
     }
 
+    /// A number in four bytes, low first.
+    pub fn number(&mut self, number: u32) {
+        self.bytes(&number.to_le_bytes());
+    }
+
     pub fn state(&mut self, state: &State) {
         self.bytes(&state_bytes(state));
+    }
+
+    /// The state and RAM that a call is given.
+    pub fn given(&mut self, state: &State, ram: &[u8]) {
+        self.state(state);
+        self.bytes(ram);
     }
 
     pub fn value(&self) -> u64 {

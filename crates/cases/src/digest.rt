@@ -28,8 +28,19 @@ pub fn digest_word(digest: u64, word: u16) -> u64 {
     digest_byte(digest_byte(digest, low(word)), high(word))
 }
 
+// The digest after a number in four bytes, low byte first.
+pub fn digest_number(digest: u64, number: u64) -> u64 {
+    let low = digest_word(digest, (number % 65536) as u16);
+    digest_word(low, (number / 65536 % 65536) as u16)
+}
+
 // The digest after the 32 bytes of a state.
 pub fn digest_state(digest: u64, state: State) -> u64 {
     let bytes = encoding::state_bytes(state);
     digest_bytes(digest, &bytes)
+}
+
+// The digest after the state and RAM that a call is given.
+pub fn digest_given(digest: u64, state: State, ram: &[u8]) -> u64 {
+    digest_bytes(digest_state(digest, state), ram)
 }

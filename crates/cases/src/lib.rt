@@ -10,6 +10,8 @@ mod trouble;
 pub use digest::START;
 pub use digest::digest_byte;
 pub use digest::digest_bytes;
+pub use digest::digest_given;
+pub use digest::digest_number;
 pub use digest::digest_state;
 pub use digest::digest_word;
 pub use head::Case;

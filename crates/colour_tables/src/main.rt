@@ -2,11 +2,12 @@
 // The lines must be those of the second program.
 ghost use Prim.Native.Nat.{_<_};
 ghost use Rattle.colour.specs.Cell.{paletteNumber};
+use cases::START;
+use cases::digest_byte;
 use colour::Cell;
 use libc::STDOUT_FILENO;
 use nick::Block;
 use nick::Pixel;
-use nick::Pointers;
 use nick::Registers;
 
 // Attributes and codes that go with each display byte.
@@ -15,54 +16,28 @@ const COMPANIONS: [u8; 6] = [0, 64, 128, 192, 27, 255];
 // Values of FIXBIAS for the palette.
 const BIASES: [u8; 6] = [0, 21, 31, 32, 96, 255];
 
-// One step of the digest's 64 bits.
-fn step(x: u64) -> u64 {
-    let a = x ^ (x << 13);
-    let b = a ^ (a >> 7);
-    b ^ (b << 17)
-}
-
-// The digest with one byte more.
-fn digest(d: u64, byte: u8) -> u64 {
-    step(d ^ (byte as u64))
-}
-
-// The digest of nothing.
-fn empty() -> u64 {
-    1469598103934665603
-}
-
 // Registers with FIXBIAS alone.
 fn biased(fixbias: u8) -> Registers {
-    Registers {
-        fixbias,
-        border: 0,
-        lpl: 0,
-        lph: 192,
-    }
+    let mut registers = nick::fresh().registers;
+    registers.fixbias = fixbias;
+    registers
 }
 
-// A block with MB, LM, RM and the palette's first eight.
-fn block_of(mb: u8, lm: u8, rm: u8, col: [u8; 8]) -> Block {
-    let start = Pointers { ld1: 0, ld2: 0 };
-    Block {
-        sc: 255,
-        mb,
-        lm,
-        rm,
-        start,
-        col,
-    }
+// A block with the palette's first eight alone.
+fn block_with(col: [u8; 8]) -> Block {
+    let mut block = nick::fresh().scan.block;
+    block.col = col;
+    block
 }
 
 // COLn is 37 n + 11, of 256.
 fn stepped() -> Block {
-    block_of(0, 8, 9, [11, 48, 85, 122, 159, 196, 233, 14])
+    block_with([11, 48, 85, 122, 159, 196, 233, 14])
 }
 
 // COLn is 255 - n.
 fn falling() -> Block {
-    block_of(0, 8, 9, [255, 254, 253, 252, 251, 250, 249, 248])
+    block_with([255, 254, 253, 252, 251, 250, 249, 248])
 }
 
 // The cell of a display byte in a video mode.
@@ -80,8 +55,8 @@ fn digest_dot(d: u64, cell: Cell, at: u8) -> u64
 {
     let pixel = colour::pixel_at(cell, at);
     match pixel {
-        Pixel::Palette(n) => digest(d, n),
-        Pixel::Direct(c) => digest(digest(d, 255), c),
+        Pixel::Palette(n) => digest_byte(d, n),
+        Pixel::Direct(c) => digest_byte(digest_byte(d, 255), c),
     }
 }
 
@@ -132,28 +107,25 @@ fn digest_block(d: u64, mode: u8, block: Block) -> u64 {
     }
 }
 
-// A block of this video and colour mode, with two alternate bits each of LM and RM.
-fn block_in(mode: u8, colours: u8, bits: u8) -> Block
-    requires { ⌜ mode < 8 ⌝ }
+// A block of this colour mode, with two alternate bits each of LM and RM.
+fn block_in(colours: u8, bits: u8) -> Block
     requires { ⌜ colours < 4 ⌝ }
     requires { ⌜ bits < 16 ⌝ }
 {
-    block_of(
-        32 * colours + 2 * mode,
-        64 * (bits / 4) + 8,
-        64 * (bits % 4) + 9,
-        [0; 8],
-    )
+    let mut block = nick::fresh().scan.block;
+    block.mb = 32 * colours;
+    block.lm = 64 * (bits / 4);
+    block.rm = 64 * (bits % 4);
+    block
 }
 
 // Every setting of the alternate bits.
 fn digest_mode(mode: u8, colours: u8) -> u64
-    requires { ⌜ mode < 8 ⌝ }
     requires { ⌜ colours < 4 ⌝ }
 {
-    let mut d = empty();
+    let mut d = START;
     for bits in 0..16 {
-        d = digest_block(d, mode, block_in(mode, colours, bits));
+        d = digest_block(d, mode, block_in(colours, bits));
     }
     d
 }
@@ -162,7 +134,7 @@ fn digest_mode(mode: u8, colours: u8) -> u64
 fn digest_palette(d: u64, registers: Registers, block: Block) -> u64 {
     let mut d = d;
     for n in 0..16 {
-        d = digest(d, colour::palette_colour(registers, block, n));
+        d = digest_byte(d, colour::palette_colour(registers, block, n));
     }
     d
 }
@@ -179,7 +151,7 @@ fn digest_bias(d: u64, fixbias: u8) -> u64 {
 
 // The palette at every FIXBIAS.
 fn digest_palettes() -> u64 {
-    let mut d = empty();
+    let mut d = START;
     for i in 0..6 {
         d = digest_bias(d, BIASES[i]);
     }
@@ -192,7 +164,7 @@ fn digest_mixed(d: u64, registers: Registers, pixel: Pixel) -> u64
 {
     let mut d = d;
     for external in 0..256u16 {
-        d = digest(
+        d = digest_byte(
             d,
             colour::mixed_colour(registers, stepped(), pixel, external as u8),
         );
@@ -205,7 +177,7 @@ fn digest_external(priority: u8) -> u64
     requires { ⌜ priority < 4 ⌝ }
 {
     let registers = biased(32 * priority + 21);
-    let mut d = empty();
+    let mut d = START;
     for n in 0..16 {
         d = digest_mixed(d, registers, Pixel::Palette(n));
     }
@@ -215,12 +187,15 @@ fn digest_external(priority: u8) -> u64
 // The levels of a colour byte.
 fn digest_colour(d: u64, colour: u8) -> u64 {
     let levels = nick::levels_of(colour);
-    digest(digest(digest(d, levels.red), levels.green), levels.blue)
+    digest_byte(
+        digest_byte(digest_byte(d, levels.red), levels.green),
+        levels.blue,
+    )
 }
 
 // The levels of every colour byte.
 fn digest_levels() -> u64 {
-    let mut d = empty();
+    let mut d = START;
     for colour in 0..256u16 {
         d = digest_colour(d, colour as u8);
     }
@@ -236,7 +211,6 @@ fn print_digest(d: u64) {
 
 // The line of a video mode in a colour mode.
 fn print_mode(name: &[u8], mode: u8, colours: u8)
-    requires { ⌜ mode < 8 ⌝ }
     requires { ⌜ colours < 4 ⌝ }
 {
     io::write_all(STDOUT_FILENO, b"colours ");
@@ -247,9 +221,7 @@ fn print_mode(name: &[u8], mode: u8, colours: u8)
 }
 
 // The lines of a video mode.
-fn print_colour_modes(name: &[u8], mode: u8)
-    requires { ⌜ mode < 8 ⌝ }
-{
+fn print_colour_modes(name: &[u8], mode: u8) {
     for colours in 0..4 {
         print_mode(name, mode, colours);
     }

@@ -44,6 +44,12 @@ fn dot_of(q: u8, word: u16) -> usize {
     }
 }
 
+// The digest after a question.
+fn digest_question(digest: u64, line: usize, dot: usize, external: u8) -> u64 {
+    let lined = cases::digest_number(digest, line as u64);
+    cases::digest_byte(cases::digest_number(lined, dot as u64), external)
+}
+
 // The refusal of an answer, 0 for none.
 fn refusal_of(answer: Answer) -> u8 {
     match answer {
@@ -81,17 +87,21 @@ fn run_question(turn: Turn, state: State, ram: &[u8], tally: &mut [u64]) -> Turn
     let source = cases::draw(turn.source, &mut bytes);
     let line = line_of(bytes[0], cases::word(bytes[1], bytes[2]));
     let dot = dot_of(bytes[0], cases::word(bytes[3], bytes[4]));
+    let asked = digest_question(turn.digest, line, dot, bytes[5]);
     let answer = direct::dot(state, ram, line, dot, bytes[5]);
     cases::count(tally, refusal_of(answer));
     Turn {
         source,
-        digest: digest_answer(turn.digest, answer),
+        digest: digest_answer(asked, answer),
     }
 }
 
-// The digest after the eight questions of a case.
-fn run_questions(turn: Turn, state: State, ram: &[u8], tally: &mut [u64]) -> u64 {
-    let mut now = turn;
+// The digest after what a case is given, and its eight questions.
+fn run_questions(source: Source, digest: u64, state: State, ram: &[u8], tally: &mut [u64]) -> u64 {
+    let mut now = Turn {
+        source,
+        digest: cases::digest_given(digest, state, ram),
+    };
     let mut i: u32 = 0;
     while i < 8 {
         now = run_question(now, state, ram, tally);
@@ -108,7 +118,7 @@ fn run_case(case: u32, digest: u64, ram: &mut [u8], tally: &mut [u64]) -> u64
     let source = drawn.source;
     let state = cases::troubled(drawn.head);
     let end = cases::ram_length(drawn.head);
-    run_questions(Turn { source, digest }, state, &ram[0..end], tally)
+    run_questions(source, digest, state, &ram[0..end], tally)
 }
 
 // The digest of the 25 cases of a line.

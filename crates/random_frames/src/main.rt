@@ -36,7 +36,14 @@ fn paint(call: Call, ram: &[u8], dots: &mut [u8], records: &mut [u8], external: 
     }
 }
 
-// Fills the buffers, paints, and digests what was answered and left in them.
+// The digest after all that a call is given, but for the two buffers that are painted.
+fn digest_call(call: Call, digest: u64, ram: &[u8], external: &[u8]) -> u64 {
+    let called = cases::digest_byte(digest, lists::bit(call.single));
+    let asked = cases::digest_number(called, call.height as u64);
+    cases::digest_bytes(cases::digest_given(asked, call.state, ram), external)
+}
+
+// Fills the buffers, paints, and digests what was given, answered and left in them.
 fn run_call(
     call: Call,
     digest: u64,
@@ -48,9 +55,10 @@ fn run_call(
 ) -> u64 {
     lists::fill(dots, 170);
     lists::fill(records, 85);
+    let given = digest_call(call, digest, ram, external);
     let painted = paint(call, ram, dots, records, external);
     cases::count(tally, painted.refusal);
-    let answered = cases::digest_byte(digest, painted.refusal);
+    let answered = cases::digest_byte(given, painted.refusal);
     let stated = cases::digest_state(answered, painted.state);
     cases::digest_bytes(cases::digest_bytes(stated, dots), records)
 }

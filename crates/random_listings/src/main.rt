@@ -4,6 +4,7 @@ ghost use Prim.Native.Nat.{_<_, _≤_};
 ghost use lib.ListN.{length};
 use nick::Listed;
 use nick::Registers;
+use nick::State;
 
 // Where a case stands after a call: the digest, and the listing's length, 0 if it was refused.
 struct Turn {
@@ -75,9 +76,7 @@ fn length_of(answer: Listed) -> usize {
 
 // The digest after an answer: the refusal's number, then the length in four bytes.
 fn digest_answer(digest: u64, refusal: u8, length: usize) -> u64 {
-    let d = cases::digest_byte(digest, refusal);
-    let d = cases::digest_word(d, (length % 65536) as u16);
-    cases::digest_word(d, (length / 65536 % 65536) as u16)
+    cases::digest_number(cases::digest_byte(digest, refusal), length as u64)
 }
 
 // One call, with its answer and output in the digest.
@@ -100,10 +99,10 @@ fn run_call(
     }
 }
 
-// The two calls of a case, the second lent an output of another length.
+// What a case is given, and its two calls, the second lent an output of another length.
 fn run_calls(
     digest: u64,
-    registers: Registers,
+    state: State,
     p: u8,
     q: u8,
     ram: &[u8],
@@ -112,7 +111,9 @@ fn run_calls(
 ) -> u64
     requires { ⌜ length (now out) ≡ 330000 ⌝ }
 {
-    let first = run_call(digest, registers, ram, out, tally);
+    let registers = state.registers;
+    let given = cases::digest_given(digest, state, ram);
+    let first = run_call(given, registers, ram, out, tally);
     let room = output_length(p, q, first.length);
     let second = run_call(first.digest, registers, ram, &mut out[0..room], tally);
     second.digest
@@ -124,20 +125,13 @@ fn run_case(case: u32, digest: u64, ram: &mut [u8], out: &mut [u8], tally: &mut 
 {
     let drawn = cases::begin(3, case);
     let head = drawn.head;
+    let state = cases::troubled(head);
     let mut bytes = [0u8; 2];
     let source = cases::draw(drawn.source, &mut bytes);
     cases::draw_plain_ram(source, ram);
     clear_reload(head.f, ram);
     let end = cases::ram_length(head);
-    run_calls(
-        digest,
-        head.state.registers,
-        bytes[0],
-        bytes[1],
-        &ram[0..end],
-        out,
-        tally,
-    )
+    run_calls(digest, state, bytes[0], bytes[1], &ram[0..end], out, tally)
 }
 
 // The digest of the ten cases of a line.

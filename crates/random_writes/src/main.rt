@@ -22,15 +22,21 @@ fn port_of(k: u8, p0: u8, p1: u8, p2: u8, p3: u8) -> u32 {
     }
 }
 
+// The digest after a write's port and value.
+fn digest_write(digest: u64, port: u32, value: u8) -> u64 {
+    cases::digest_byte(cases::digest_number(digest, port as u64), value)
+}
+
 // Draws and makes one write.
 fn run_write(turn: Turn, tally: &mut [u64]) -> Turn {
     let mut bytes = [0u8; 6];
     let source = cases::draw(turn.source, &mut bytes);
     let port = port_of(bytes[0], bytes[1], bytes[2], bytes[3], bytes[4]);
+    let asked = digest_write(turn.digest, port, bytes[5]);
     let written = nick::write(turn.state, port, bytes[5]);
     let state = written.state;
     cases::count(tally, written.refusal);
-    let digest = cases::digest_byte(turn.digest, written.refusal);
+    let digest = cases::digest_byte(asked, written.refusal);
     Turn {
         source,
         state,
@@ -38,7 +44,7 @@ fn run_write(turn: Turn, tally: &mut [u64]) -> Turn {
     }
 }
 
-// The digest after the sixteen writes of a case.
+// The digest after the state of a case, and its sixteen writes.
 fn run_case(case: u32, digest: u64, tally: &mut [u64]) -> u64 {
     let drawn = cases::begin(5, case);
     let source = drawn.source;
@@ -46,7 +52,7 @@ fn run_case(case: u32, digest: u64, tally: &mut [u64]) -> u64 {
     let mut turn = Turn {
         source,
         state,
-        digest,
+        digest: cases::digest_state(digest, state),
     };
     let mut i: u32 = 0;
     while i < 16 {

@@ -19,9 +19,6 @@ add-biased c = search needs
 biased-requires : tie.Need-biased-requires Inv-loop μ-loop
 biased-requires c κs = search needs
 
-empty-requires : tie.Need-empty-requires Inv-loop μ-loop
-empty-requires c κs = search needs
-
 loop-holds : tie.Need-loop-holds Inv-loop μ-loop
 loop-holds c = search needs
 
@@ -52,7 +49,6 @@ digest-external-spec =
     mul-biased
     add-biased
     biased-requires
-    empty-requires
     loop-holds
     digest-mixed-requires
     add-n

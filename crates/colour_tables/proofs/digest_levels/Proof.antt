@@ -10,9 +10,6 @@ Inv-loop d₀ colour₀ d colour = colour ≤ 256
 abbrev μ-loop : tie.MeasureT-loop
 μ-loop d₀ colour₀ d colour = 256 - colour
 
-empty-requires : tie.Need-empty-requires Inv-loop μ-loop
-empty-requires c κs = search needs
-
 loop-holds : tie.Need-loop-holds Inv-loop μ-loop
 loop-holds c = search needs
 
@@ -40,7 +37,6 @@ digest-levels-spec =
     (tie.spec
     Inv-loop
     μ-loop
-    empty-requires
     loop-holds
     cast-digest-colour
     digest-colour-requires

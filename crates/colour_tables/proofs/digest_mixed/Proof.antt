@@ -22,8 +22,8 @@ cast-mixed-colour c = search needs
 mixed-colour-requires : tie.Need-mixed-colour-requires Inv-loop μ-loop
 mixed-colour-requires c κs = search needs
 
-digest-requires : tie.Need-digest-requires Inv-loop μ-loop
-digest-requires c κs = search needs
+digest-byte-requires : tie.Need-digest-byte-requires Inv-loop μ-loop
+digest-byte-requires c κs = search needs
 
 add-external : tie.Need-add-external Inv-loop μ-loop
 add-external c = search needs
@@ -47,7 +47,7 @@ digest-mixed-spec =
     stepped-requires
     cast-mixed-colour
     mixed-colour-requires
-    digest-requires
+    digest-byte-requires
     add-external
     loop-less
     loop-again

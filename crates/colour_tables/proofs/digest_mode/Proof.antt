@@ -10,9 +10,6 @@ Inv-loop mode colours d₀ bits₀ d bits = bits ≤ 16
 abbrev μ-loop : tie.MeasureT-loop
 μ-loop mode colours d₀ bits₀ d bits = 16 - bits
 
-empty-requires : tie.Need-empty-requires Inv-loop μ-loop
-empty-requires c κs = search needs
-
 loop-holds : tie.Need-loop-holds Inv-loop μ-loop
 loop-holds c = search needs
 
@@ -40,7 +37,6 @@ digest-mode-spec =
     (tie.spec
     Inv-loop
     μ-loop
-    empty-requires
     loop-holds
     block-in-requires
     digest-block-requires

@@ -16,8 +16,8 @@ loop-holds c = search needs
 palette-colour-requires : tie.Need-palette-colour-requires Inv-loop μ-loop
 palette-colour-requires c κs = search needs
 
-digest-requires : tie.Need-digest-requires Inv-loop μ-loop
-digest-requires c κs = search needs
+digest-byte-requires : tie.Need-digest-byte-requires Inv-loop μ-loop
+digest-byte-requires c κs = search needs
 
 add-n : tie.Need-add-n Inv-loop μ-loop
 add-n c = search needs
@@ -39,7 +39,7 @@ digest-palette-spec =
     μ-loop
     loop-holds
     palette-colour-requires
-    digest-requires
+    digest-byte-requires
     add-n
     loop-less
     loop-again

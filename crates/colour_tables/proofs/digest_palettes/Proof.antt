@@ -10,9 +10,6 @@ Inv-loop d₀ i₀ d i = i ≤ 6
 abbrev μ-loop : tie.MeasureT-loop
 μ-loop d₀ i₀ d i = 6 - i
 
-empty-requires : tie.Need-empty-requires Inv-loop μ-loop
-empty-requires c κs = search needs
-
 loop-holds : tie.Need-loop-holds Inv-loop μ-loop
 loop-holds c = search needs
 
@@ -40,7 +37,6 @@ digest-palettes-spec =
     (tie.spec
     Inv-loop
     μ-loop
-    empty-requires
     loop-holds
     array-read-digest-bias
     digest-bias-requires

@@ -7,10 +7,13 @@ use Rattle.random_dots.proofs.run_questions.Statement.{statement}
 use Rattle.random_dots.proofs.run_questions.Tie as tie
 
 abbrev Inv-loop : tie.InvT-loop
-Inv-loop state ram tally₀ now₀ i₀ tally now i = length tally ≡ length tally₀
+Inv-loop digest state ram tally₀ now₀ i₀ tally now i = length tally ≡ length tally₀
 
 abbrev μ-loop : tie.MeasureT-loop
-μ-loop state ram tally₀ now₀ i₀ tally now i = 8 - i
+μ-loop digest state ram tally₀ now₀ i₀ tally now i = 8 - i
+
+digest-given-requires : tie.Need-digest-given-requires Inv-loop μ-loop
+digest-given-requires c κs = search needs
 
 loop-holds : tie.Need-loop-holds Inv-loop μ-loop
 loop-holds c = search needs
@@ -39,6 +42,7 @@ run-questions-spec =
     (tie.spec
     Inv-loop
     μ-loop
+    digest-given-requires
     loop-holds
     run-question-requires
     add-i

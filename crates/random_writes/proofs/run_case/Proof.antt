@@ -18,6 +18,9 @@ begin-requires c κs = search needs
 troubled-requires : tie.Need-troubled-requires Inv-loop μ-loop
 troubled-requires c κs = search needs
 
+digest-state-requires : tie.Need-digest-state-requires Inv-loop μ-loop
+digest-state-requires c κs = search needs
+
 loop-holds : tie.Need-loop-holds Inv-loop μ-loop
 loop-holds c = search needs
 
@@ -47,6 +50,7 @@ run-case-spec =
     μ-loop
     begin-requires
     troubled-requires
+    digest-state-requires
     loop-holds
     run-write-requires
     add-i
