@@ -6,6 +6,7 @@ ghost use Rattle.cases.specs.Head.{Drawn};
 use crate::source::Source;
 use crate::source::draw;
 use crate::source::seeded;
+use blocks::word;
 use nick::Pointers;
 use nick::Registers;
 use nick::Scan;
@@ -25,11 +26,6 @@ pub struct Head {
 pub struct Case {
     pub source: Source,
     pub head: Head,
-}
-
-// The word of a low and a high byte.
-pub fn word(low: u8, high: u8) -> u16 {
-    low as u16 + 256 * (high as u16)
 }
 
 // LPH: with bit 4 of K its two high bits are set, with bit 6 its four low bits.

@@ -17,7 +17,6 @@ pub use digest::digest_word;
 pub use head::Case;
 pub use head::Head;
 pub use head::begin;
-pub use head::word;
 pub use print::count;
 pub use print::print_line;
 pub use print::print_tally;

@@ -1,5 +1,6 @@
 // What the programs share: files and numbers named by the arguments, register writes from a file, and the lines printed.
 mod argument;
+mod inputs;
 mod print;
 mod writes;
 
@@ -8,6 +9,10 @@ pub use argument::Number;
 pub use argument::number_argument;
 pub use argument::read_argument;
 pub use argument::write_argument;
+pub use inputs::Inputs;
+pub use inputs::RAM;
+pub use inputs::WRITES;
+pub use inputs::read_inputs;
 pub use print::print_refusal;
 pub use print::print_unreadable;
 pub use print::print_unwritten;

@@ -14,7 +14,7 @@ use Rattle.nick.specs.Colour.{colourNumber}
 use Rattle.nick.specs.Listing.{TAB, decimal, modeName, colourCount, tabbed, numbersAfterName, blockLine, blockLines, blocksListed, listing}
 use Rattle.nick.specs.declared.Registers.{Registers}
 use Rattle.listing.specs.Lines.{lineAfter, wordLine}
-use Rattle.listing.proofs.Decimal.{decimal-length}
+use Rattle.text.proofs.Decimal.{decimal-length}
 use Rattle.listing.proofs.Pieces.{each-mode, line-length, word-length, header, endTab, header-text, end-text}
 use Rattle.listing.proofs.Table.{listed-limit}
 

@@ -8,9 +8,9 @@ use native.Mathlib.Omega.{arith}
 use lib.ListN.{length, length-append}
 use Rattle.nick.specs.Listing.{blockLines}
 use Rattle.nick.specs.declared.Registers.{Registers}
-use Rattle.listing.specs.Text.{Room, Wrote}
+use Rattle.text.specs.Text.{Room, Wrote}
 use Rattle.listing.specs.Lines.{lineAfter}
-use Rattle.listing.proofs.Writing.{wrote-then}
+use Rattle.text.proofs.Writing.{wrote-then}
 
 module _ (g : Registers) (ram : List ℕ) where
   grow : (j k : ℕ) → j ≤ k → length (blockLines g ram j) ≤ length (blockLines g ram k)

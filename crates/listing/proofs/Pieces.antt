@@ -1,6 +1,6 @@
 -- Laws on the pieces of a block's line: names, bits, colours and tabbed numbers, and the line's length.
-use mathlib.Core.Path.{_≡_, refl, sym}
-use mathlib.Core.List.{List, [], _∷_, _++_, append-nil, append-assoc}
+use mathlib.Core.Path.{_≡_, refl}
+use mathlib.Core.List.{List, [], _∷_, _++_}
 use Prim.Native.Nat.{ℕ, zero, suc, _+_, _-_, _*_, _/_, _%_, _<_, _≤_}
 use native.Mathlib.Nat.{not-suc-le-zero, le-of-suc-le-suc, div-one}
 use native.Mathlib.Omega.{arith}
@@ -15,7 +15,8 @@ use Rattle.nick.specs.Slots.{modeNumber}
 use Rattle.nick.specs.Listing.{TAB, LF, headerWord, endWord, decimal, modeName, colourCount, tabbed, numbersAfterName, blockLine, headerLine, endLine}
 use Rattle.nick.specs.declared.Registers.{Registers}
 use Rattle.nick.specs.declared.Block.{Block}
-use Rattle.listing.specs.Text.{Room, Wrote}
+use Rattle.text.specs.Text.{Room, Wrote}
+use Rattle.text.proofs.Fields.{field}
 use Rattle.listing.specs.Lines.{wordLine}
 
 -- the names in six bytes each, and how many of the six are the name
@@ -88,18 +89,6 @@ pub numbers-are : (b : Block) (colours : List ℕ) → colours ≡ b .col
     ≡ numbersAfterName b
 unfolding colourCount
 numbers-are b colours e = rw (e, div-one (b .mb), ← (number-bit (b .mb / 16)), ← (number-bit (b .mb / 128)), ← (number-bit (b .mb)))
-
--- a number after a tab
-abbrev pub field : ℕ → List ℕ
-field n = TAB ∷ decimal n
-
-pub one-field : (n : ℕ) → tabbed (n ∷ []) ≡ field n
-one-field n = append-nil (field n)
-
--- tabbed numbers after tabbed numbers
-pub tabbed-append : (xs ys : List ℕ) → tabbed (xs ++ ys) ≡ tabbed xs ++ tabbed ys
-tabbed-append [] ys = refl
-tabbed-append (n ∷ xs) ys = rw (tabbed-append xs ys) (sym (append-assoc (TAB ∷ decimal n) (tabbed xs) (tabbed ys)))
 
 -- a block's line, piece by piece
 pub line-text : (n : ℕ) (b : Block) (xs : List ℕ) → xs ≡ numbersAfterName b

@@ -1,13 +1,12 @@
 // The text listing of the line parameter table.
 mod line;
-mod text;
 
 ghost use mathlib.Core.Path.{_≡_};
 ghost use Prim.Native.Nat.{_+_, _%_, _<_, _≤_};
 ghost use lib.ListN.{length};
 ghost use Rattle.nick.specs.Blocks.{blockAt, reload};
 ghost use Rattle.nick.specs.Listing.{blockLines, blocksListed, listing};
-ghost use Rattle.listing.specs.Text.{Room, Wrote};
+ghost use Rattle.text.specs.Text.{Room, Wrote};
 ghost use Rattle.listing.specs.Lines.{lineAfter, wordLine};
 ghost use Rattle.listing.specs.Lists.{Lists};
 use blocks::base_number;

@@ -2,14 +2,14 @@
 ghost use mathlib.Core.Path.{_≡_};
 ghost use Prim.Native.Nat.{_<_};
 ghost use Rattle.nick.specs.Listing.{modeName, numbersAfterName, blockLine};
-ghost use Rattle.listing.specs.Text.{Room, Wrote};
-use crate::text::TAB;
-use crate::text::put_byte;
-use crate::text::put_bytes;
-use crate::text::put_decimal;
-use crate::text::put_field;
-use crate::text::put_fields;
+ghost use Rattle.text.specs.Text.{Room, Wrote};
 use nick::Block;
+use text::TAB;
+use text::put_byte;
+use text::put_bytes;
+use text::put_decimal;
+use text::put_field;
+use text::put_fields;
 
 // The number of colours, by the colour mode number.
 const COLOURS: [usize; 4] = [2, 4, 16, 256];

@@ -1,7 +1,7 @@
 -- Document 01, "One scanline": the slots in order, the dots, the fetches, and the step to the next scanline.
 use Prim.Native.Nat.{ℕ, zero, suc, _+_, _-_, _*_}
 use mathlib.Core.Bool.{Bool, true, false}
-use mathlib.Core.List.{List, [], _∷_, _++_, map}
+use mathlib.Core.List.{List, [], _++_, map}
 use Rattle.lists.specs.Choice.{pick}
 use Rattle.lists.specs.Tab.{tab}
 use Rattle.nick.specs.Numbers.{byteAt}

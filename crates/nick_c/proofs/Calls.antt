@@ -24,7 +24,8 @@ use Rattle.painting.specs.Frames.{Paints}
 use Rattle.listing.specs.Lists.{Lists}
 use Rattle.listing.proofs.Length.{listing-bound}
 use Rattle.encoding.specs.Encoding.{encoded, stateOf}
-use Rattle.nick_c.specs.Calls.{Freshens, Writes, paintBytes, PaintsBytes, ListsBytes, packedAnswer, dotAnswer, packedListed, lengthOf, portRefusal, kept}
+use Rattle.packing.specs.Packed.{packedAnswer, packedListed, lengthOf}
+use Rattle.nick_c.specs.Calls.{Freshens, Writes, paintBytes, PaintsBytes, ListsBytes, dotAnswer, portRefusal, kept}
 
 -- a refused call leaves the bytes
 pub kept-refused : (n : ℕ) (s : State) (b : List ℕ) → (n ≡ 0 → ⊥) → kept n s b ≡ b

@@ -1,5 +1,5 @@
 -- What each exported call answers, and what it leaves in the bytes that it was lent.
-use Prim.Native.Nat.{ℕ, _+_, _*_, _^_}
+use Prim.Native.Nat.{ℕ}
 use mathlib.Core.Path.{_≡_}
 use mathlib.Core.Bool.{Bool}
 use mathlib.Core.List.{List}
@@ -8,14 +8,11 @@ use lib.ListN.{length, replicate}
 use Rattle.lists.specs.Choice.{pick}
 use Rattle.nick.specs.Registers.{freshState, writeRefusal, written}
 use Rattle.nick.specs.Painting.{paint}
-use Rattle.nick.specs.Numbers.{byteAt}
-use Rattle.nick.specs.Direct.{Answered, refused, colour, direct}
+use Rattle.nick.specs.Direct.{direct}
 use Rattle.nick.specs.Listing.{listAnswer, listOutput}
-use Rattle.nick.specs.declared.Levels.{Levels}
-use Rattle.nick.specs.declared.Listed.{Listed}
-use Rattle.nick.specs.declared.Listed.the-variants.{Length, Refused}
 use Rattle.nick.specs.declared.State.{State}
 use Rattle.encoding.specs.Encoding.{encoded, stateOf}
+use Rattle.packing.specs.Packed.{packedAnswer, packedListed}
 
 -- a state has 32 bytes
 abbrev pub isState : List ℕ → Bool
@@ -76,34 +73,11 @@ pub record PaintsBytes (b₀ ram : List ℕ) (h : ℕ) (dots₀ records₀ exter
   pub dots : dots₁ ≡ paintBytes b₀ ram h dots₀ records₀ external .dots
   pub records : records₁ ≡ paintBytes b₀ ram h dots₀ records₀ external .records
 
--- bits 16 to 23 how many addresses, 24 to 39 and 40 to 55 the addresses in order, else zeros
-abbrev pub packedAddresses : List ℕ → ℕ
-packedAddresses named = 2 ^ 16 * length named + 2 ^ 24 * byteAt named 0 + 2 ^ 40 * byteAt named 1
-
--- bits 0 to 7 the refusal, 8 to 15 the colour
-abbrev pub packedAnswer : Answered → ℕ
-packedAnswer (refused n) = n
-packedAnswer (colour c named) = 2 ^ 8 * c + packedAddresses named
-
 -- the direct answer
 unfoldable pub dotAnswer : List ℕ → List ℕ → ℕ → ℕ → ℕ → ℕ
 dotAnswer b ram line dot external = pick (isState b) (packedAnswer (direct (stateOf b) ram line dot external)) 3
-
--- a listing's length; none where it is refused
-abbrev pub lengthOf : Listed → ℕ
-lengthOf (Length n) = n
-lengthOf (Refused n) = 0
-
--- bits 0 to 31 the refusal, 32 to 63 the length
-abbrev pub packedListed : Listed → ℕ
-packedListed (Length n) = 2 ^ 32 * n
-packedListed (Refused n) = n
 
 -- the listing; a state of another length keeps the output
 pub record ListsBytes (b ram out₀ out₁ : List ℕ) (r : ℕ) : Type 0 where
   pub answer : r ≡ pick (isState b) (packedListed (listAnswer (stateOf b .registers) ram out₀)) 3
   pub output : out₁ ≡ pick (isState b) (listOutput (stateOf b .registers) ram out₀) out₀
-
--- red + 256 * green + 65,536 * blue
-abbrev pub packedLevels : Levels → ℕ
-packedLevels v = v .red + 256 * v .green + 65536 * v .blue

@@ -3,15 +3,14 @@
 ghost use mathlib.Core.Path.{_≡_};
 ghost use lib.ListN.{length};
 ghost use Rattle.nick.specs.Levels.{levelsOf};
-ghost use Rattle.nick_c.specs.Calls.{Freshens, Writes, PaintsBytes, ListsBytes, dotAnswer, packedLevels, kept};
-
-mod answer;
-
-use answer::packed_answer;
-use answer::packed_listed;
+ghost use Rattle.nick_c.specs.Calls.{Freshens, Writes, PaintsBytes, ListsBytes, dotAnswer, kept};
+ghost use Rattle.packing.specs.Packed.{packedLevels};
 use encoding::decode_state;
 use encoding::encode_state;
 use nick::State;
+use packing::packed_answer;
+use packing::packed_levels;
+use packing::packed_listed;
 
 // How many bytes a state has.
 const STATE_BYTES: usize = 32;
@@ -120,6 +119,5 @@ pub extern "C" fn nick_list(state: &[u8], ram: &[u8], out: &mut [u8]) -> u64
 pub extern "C" fn nick_levels(colour: u8) -> u32
     ensures { λ r. ⌜ r ≡ packedLevels (levelsOf colour) ⌝ }
 {
-    let levels = nick::levels_of(colour);
-    levels.red as u32 + 256 * (levels.green as u32) + 65536 * (levels.blue as u32)
+    packed_levels(nick::levels_of(colour))
 }

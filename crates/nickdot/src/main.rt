@@ -10,11 +10,7 @@ use libc::STDOUT_FILENO;
 use nick::Answer;
 use nick::Sources;
 
-// The arguments.
-const RAM: usize = 1;
-
-const WRITES: usize = 2;
-
+// The arguments after RAM and WRITES.
 const LINE: usize = 3;
 
 const DOT: usize = 4;
@@ -114,18 +110,13 @@ fn print_answer(ram: &[u8], writes: &[u8], line: usize, dot: usize, external: u8
 
 // Reads the files and answers.
 fn answer_files(line: usize, dot: usize, external: u8, ram: &mut [u8], writes: &mut [u8]) {
-    let first = files::read_argument(RAM, ram);
-    if !first.is_read {
-        files::print_unreadable(RAM);
+    let read = files::read_inputs(ram, writes);
+    if read.unread != 0 {
+        files::print_unreadable(read.unread);
         return;
     }
-    let second = files::read_argument(WRITES, writes);
-    if !second.is_read {
-        files::print_unreadable(WRITES);
-        return;
-    }
-    let ram_end = first.length;
-    let writes_end = second.length;
+    let ram_end = read.ram;
+    let writes_end = read.writes;
     if writes_end % 2 == 1 {
         print_usage();
         return;

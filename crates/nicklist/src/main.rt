@@ -6,11 +6,6 @@ ghost use Rattle.nicklist.specs.Lists.{ListsAfter};
 use libc::STDOUT_FILENO;
 use nick::Listed;
 
-// The arguments.
-const RAM: usize = 1;
-
-const WRITES: usize = 2;
-
 fn print_usage() {
     io::write_all(
         STDOUT_FILENO,
@@ -46,22 +41,17 @@ fn print_listing(ram: &[u8], writes: &[u8], text: &mut [u8]) {
 
 // Reads the files and lists.
 fn run_lent(ram: &mut [u8], writes: &mut [u8], text: &mut [u8]) {
-    if os::arg_count() != WRITES + 1 {
+    if os::arg_count() != files::WRITES + 1 {
         print_usage();
         return;
     }
-    let first = files::read_argument(RAM, ram);
-    if !first.is_read {
-        files::print_unreadable(RAM);
+    let read = files::read_inputs(ram, writes);
+    if read.unread != 0 {
+        files::print_unreadable(read.unread);
         return;
     }
-    let second = files::read_argument(WRITES, writes);
-    if !second.is_read {
-        files::print_unreadable(WRITES);
-        return;
-    }
-    let ram_end = first.length;
-    let writes_end = second.length;
+    let ram_end = read.ram;
+    let writes_end = read.writes;
     if writes_end % 2 == 1 {
         print_usage();
         return;

@@ -7,19 +7,14 @@ ghost use Prim.Native.Nat.{_*_, _≤_};
 ghost use lib.ListN.{length};
 ghost use Rattle.lines.specs.Ready.{Ready};
 ghost use Rattle.lists.specs.Choice.{pick};
-ghost use Rattle.nickpaint.specs.Arguments.{linesStamped, firstUnread, stamps};
-ghost use Rattle.nickpaint.specs.Lengths.{Whole, Within};
+ghost use Rattle.nickpaint.specs.Arguments.{linesStamped, stamps};
 use files::Number;
 use libc::STDOUT_FILENO;
 use lines::paint_by_line;
 use lines::refusal;
 use nick::State;
 
-// The arguments.
-const RAM: usize = 1;
-
-const WRITES: usize = 2;
-
+// The arguments after RAM and WRITES.
 const HEIGHT: usize = 3;
 
 const DOTS: usize = 4;
@@ -27,14 +22,6 @@ const DOTS: usize = 4;
 const RECORDS: usize = 5;
 
 const EXTERNAL: usize = 6;
-
-// How much was read of each file, and the argument that could not be read, 0 for none.
-pub struct Lengths {
-    pub unread: usize,
-    pub ram: usize,
-    pub writes: usize,
-    pub external: usize,
-}
 
 fn print_usage() {
     io::write_all(
@@ -49,9 +36,9 @@ fn print_painted(height: usize) {
     io::write_all(STDOUT_FILENO, b" lines\n");
 }
 
-// The lines to stamp: those asked for, but at least one and at most 1,024.
+// The lines to stamp: those asked for, but at least one and at most 65,536.
 fn lines_stamped(height: Number) -> usize
-    ensures { λ r. ⌜ (r ≡ linesStamped height) × (r ≤ 1024) ⌝ }
+    ensures { λ r. ⌜ (r ≡ linesStamped height) × (r ≤ 65536) ⌝ }
 {
     let Number::Value(n) = height else {
         return 1;
@@ -59,8 +46,8 @@ fn lines_stamped(height: Number) -> usize
     if n == 0 {
         return 1;
     }
-    if 1024 < n {
-        return 1024;
+    if 65536 < n {
+        return 65536;
     }
     n
 }
@@ -86,34 +73,6 @@ fn read_external(external: &mut [u8]) -> files::Contents
         };
     }
     files::read_argument(EXTERNAL, external)
-}
-
-// The first argument that could not be read, 0 for none.
-fn unread(ram: bool, writes: bool, external: bool) -> usize
-    ensures { λ r. ⌜ r ≡ firstUnread «ram» «writes» «external» ⌝ }
-{
-    if ram {
-        if writes {
-            return if external { 0 } else { EXTERNAL };
-        }
-        return WRITES;
-    }
-    RAM
-}
-
-// Reads the files.
-fn read_files(ram: &mut [u8], writes: &mut [u8], external: &mut [u8]) -> Lengths
-    ensures { λ r. ⌜ Within r (now (ram .entry)) (now (writes .entry)) (now (external .entry)) ⌝ }
-{
-    let first = files::read_argument(RAM, ram);
-    let second = files::read_argument(WRITES, writes);
-    let third = read_external(external);
-    Lengths {
-        unread: unread(first.is_read, second.is_read, third.is_read),
-        ram: first.length,
-        writes: second.length,
-        external: third.length,
-    }
 }
 
 // Writes RECORDS; where that fails, it is stamped again.
@@ -152,7 +111,7 @@ fn paint_and_write(
     records: &mut [u8],
     external: &[u8],
 )
-    requires { ⌜ (height ≤ 1024) × (length (now dots) ≡ 753664) × (length (now records) ≡ 4096) ⌝ }
+    requires { ⌜ (height ≤ 1024) × (length (now dots) ≡ 753664) × (length (now records) ≡ 262144) ⌝ }
     requires { ⌜ Ready state (now ram) (736 * height) (now external) ⌝ }
 {
     let dots_end = 736 * height;
@@ -177,7 +136,7 @@ fn paint_files(
     records: &mut [u8],
     external: &[u8],
 )
-    requires { ⌜ (length (now dots) ≡ 753664) × (length (now records) ≡ 4096) ⌝ }
+    requires { ⌜ (length (now dots) ≡ 753664) × (length (now records) ≡ 262144) ⌝ }
 {
     let written = files::apply_writes(writes);
     let refused = refusal(written.refusal, ram, height, external);
@@ -186,6 +145,26 @@ fn paint_files(
         return;
     }
     paint_and_write(written.state, ram, height, dots, records, external);
+}
+
+// Reads EXTERNAL and paints.
+fn run_read(
+    ram: &[u8],
+    writes: &[u8],
+    height: usize,
+    dots: &mut [u8],
+    records: &mut [u8],
+    external: &mut [u8],
+)
+    requires { ⌜ (length (now dots) ≡ 753664) × (length (now records) ≡ 262144) ⌝ }
+{
+    let read = read_external(external);
+    if !read.is_read {
+        files::print_unreadable(EXTERNAL);
+        return;
+    }
+    let end = read.length;
+    paint_files(ram, writes, height, dots, records, &external[0..end]);
 }
 
 // Reads the files and paints, once RECORDS is stamped.
@@ -197,27 +176,26 @@ fn run_stamped(
     records: &mut [u8],
     external: &mut [u8],
 )
-    requires { ⌜ Whole (now ram) (now writes) (now dots) (now records) (now external) ⌝ }
+    requires { ⌜ (length (now dots) ≡ 753664) × (length (now records) ≡ 262144) ⌝ }
 {
-    let read = read_files(ram, writes, external);
+    let read = files::read_inputs(ram, writes);
     if read.unread != 0 {
         files::print_unreadable(read.unread);
         return;
     }
     let ram_end = read.ram;
     let writes_end = read.writes;
-    let external_end = read.external;
     if writes_end % 2 == 1 {
         print_usage();
         return;
     }
-    paint_files(
+    run_read(
         &ram[0..ram_end],
         &writes[0..writes_end],
         height,
         dots,
         records,
-        &external[0..external_end],
+        external,
     );
 }
 
@@ -229,7 +207,7 @@ fn run_lent(
     records: &mut [u8],
     external: &mut [u8],
 )
-    requires { ⌜ Whole (now ram) (now writes) (now dots) (now records) (now external) ⌝ }
+    requires { ⌜ (length (now dots) ≡ 753664) × (length (now records) ≡ 262144) ⌝ }
 {
     let count = os::arg_count();
     if count <= RECORDS {
@@ -257,7 +235,7 @@ fn run(
     ram: &mut [u8; 65537],
     writes: &mut [u8; 65537],
     dots: &mut [u8; 753664],
-    records: &mut [u8; 4096],
+    records: &mut [u8; 262144],
     external: &mut [u8; 753665],
 ) {
     run_lent(ram, writes, dots, records, external);
@@ -267,7 +245,7 @@ fn main() {
     let mut ram = [0u8; 65537];
     let mut writes = [0u8; 65537];
     let mut dots = [0u8; 753664];
-    let mut records = [0u8; 4096];
+    let mut records = [0u8; 262144];
     let mut external = [0u8; 753665];
     run(
         &mut ram,

@@ -7,7 +7,7 @@ use lib.ListN.{length}
 use Rattle.nick.specs.Listing.{blockLines, listing}
 use Rattle.nick.specs.declared.Registers.{Registers}
 use Rattle.listing.specs.Lines.{wordLine}
-use Rattle.listing.proofs.Writing.{wrote-then}
+use Rattle.text.proofs.Writing.{wrote-then}
 use Rattle.listing.proofs.Pieces.{header, endTab}
 use Rattle.listing.proofs.Table.{listed-limit}
 use Rattle.listing.proofs.Length.{listing-text, listing-length, listing-bound}

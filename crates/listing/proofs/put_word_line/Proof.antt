@@ -1,6 +1,6 @@
 -- `listing::put_word_line`: each of the three pieces has room since the whole line has.
 use native.Mathlib.Omega.{arith}
-use Rattle.listing.proofs.Writing.{wrote-then}
+use Rattle.text.proofs.Writing.{wrote-then}
 use Rattle.listing.proofs.Pieces.{word-length}
 use borrow.Author.Needs.{needs}
 use Rattle.listing.proofs.put_word_line.Statement.{statement}

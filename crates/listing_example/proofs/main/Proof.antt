@@ -14,6 +14,9 @@ Inv-loop registers ram₀ i₀ ram i = (i ≤ 16) × (65536 ≡ length ram)
 abbrev μ-loop : tie.MeasureT-loop
 μ-loop registers ram₀ i₀ ram i = 16 - i
 
+fresh-requires : tie.Need-fresh-requires Inv-loop μ-loop
+fresh-requires c κs = search needs
+
 large-buffer-requires : tie.Need-large-buffer-requires Inv-loop μ-loop
 large-buffer-requires c κs = search needs
 
@@ -83,6 +86,7 @@ main-spec =
     (tie.spec
     Inv-loop
     μ-loop
+    fresh-requires
     large-buffer-requires
     loop-holds
     array-read-ram

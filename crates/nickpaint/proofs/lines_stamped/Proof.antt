@@ -1,4 +1,4 @@
--- `nickpaint::lines_stamped`: at least one line, at most 1,024.
+-- `nickpaint::lines_stamped`: at least one line, at most 65,536.
 use native.Mathlib.Omega.{arith}
 use borrow.Author.Needs.{needs}
 use Rattle.nickpaint.proofs.lines_stamped.Statement.{statement}

@@ -1,6 +1,6 @@
 -- `listing::line::put_block`: each piece has room since the whole line has, and the pieces make up the line.
 use native.Mathlib.Omega.{arith}
-use Rattle.listing.proofs.Writing.{wrote-then}
+use Rattle.text.proofs.Writing.{wrote-then}
 use Rattle.listing.proofs.Pieces.{line-text, line-length}
 use borrow.Author.Needs.{needs}
 use Rattle.listing.proofs.line.put_block.Statement.{statement}

@@ -1,0 +1,14 @@
+// Prints every refusal as the programs print it, in the order of document 01's table.
+fn main() {
+    files::print_refusal(1);
+    files::print_refusal(2);
+    files::print_refusal(3);
+    files::print_refusal(4);
+    files::print_refusal(5);
+    files::print_refusal(6);
+    files::print_refusal(7);
+    files::print_refusal(8);
+    files::print_refusal(9);
+    files::print_refusal(10);
+    files::print_refusal(11);
+}
