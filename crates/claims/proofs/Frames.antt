@@ -5,6 +5,7 @@ use Prim.Native.Nat.{ℕ, zero, suc, _+_, _*_, _<_}
 use native.Mathlib.Omega.{arith}
 use lib.ListN.{length, getD, drop}
 use lib.Seq.{getD-drop}
+use Rattle.nick.specs.Sizes.{recordBytes}
 use Rattle.nick.specs.Scanline.{lineDots, scanAfter}
 use Rattle.nick.specs.Record.{lineRecord, stateAfter}
 use Rattle.nick.specs.Painting.{externalAt, frameDots, frameRecords}
@@ -75,22 +76,22 @@ module _ (ram : List ℕ) (n : ℕ) (s : State) where
       (rows-same (λ y. frameRecord ram s (n + y)) laterRecord record-later m))
 
 -- "Records: 4 bytes per scanline."
-pub length-record : (ram : List ℕ) (s : State) → length (lineRecord ram s) ≡ 4
+pub length-record : (ram : List ℕ) (s : State) → length (lineRecord ram s) ≡ recordBytes
 unfolding lineRecord
 length-record ram s = refl
 
 module _ (ram : List ℕ) (s : State) where
-  four : (y : ℕ) → length (frameRecord ram s y) ≡ 4
-  four y = length-record ram (stateAfter ram y s)
+  whole : (y : ℕ) → length (frameRecord ram s y) ≡ recordBytes
+  whole y = length-record ram (stateAfter ram y s)
 
-  pub length-records : (n : ℕ) → length (frameRecords ram n s) ≡ 4 * n
-  length-records n = rw (records-rows ram n s) (length-rows (frameRecord ram s) 4 four n)
+  pub length-records : (n : ℕ) → length (frameRecords ram n s) ≡ recordBytes * n
+  length-records n = rw (records-rows ram n s) (length-rows (frameRecord ram s) recordBytes whole n)
 
   -- byte i of the record of line y
   pub record-byte :
-      (n y i : ℕ) → y < n → i < 4
-      → getD (frameRecords ram n s) (4 * y + i) 0 ≡ getD (lineRecord ram (stateAfter ram y s)) i 0
-  record-byte n y i h l = rw (records-rows ram n s) (getD-rows (frameRecord ram s) 4 four n y i 0 h l)
+      (n y i : ℕ) → y < n → i < recordBytes
+      → getD (frameRecords ram n s) (recordBytes * y + i) 0 ≡ getD (lineRecord ram (stateAfter ram y s)) i 0
+  record-byte n y i h l = rw (records-rows ram n s) (getD-rows (frameRecord ram s) recordBytes whole n y i 0 h l)
 
 module _ (ram external : List ℕ) (s : State) where
   wide : (y : ℕ) → length (frameLine ram external s y) ≡ 736

@@ -8,6 +8,7 @@ use native.Mathlib.Nat.{add-zero}
 use native.Mathlib.Omega.{arith}
 use lib.ListN.{length, length-append, getD-replicate}
 use Rattle.lists.specs.Choice.{pick, number}
+use Rattle.nick.specs.Sizes.{recordBytes}
 use Rattle.nick.specs.Numbers.{bit, byteAt}
 use Rattle.nick.specs.Blocks.{vint, loads, loadedNumber, blockAddresses, begun}
 use Rattle.nick.specs.Slots.{Mode, VSYNC, PIXEL, ATTR, CH, UNUSED, LPIXEL, modeOf, slotFetches}
@@ -58,12 +59,12 @@ module _ (s : State) (ram : List ℕ) (h : ℕ) (dots records external : List �
   pub accepted-records :
       paint s ram h dots records external .refusal ≡ 0
       → (y : ℕ) → y < h
-      → byteAt (paint s ram h dots records external .records) (4 * y) < 64
+      → byteAt (paint s ram h dots records external .records) (recordBytes * y) < 64
   unfolding painted
   accepted-records e y l =
       rw (
         accepted-is s ram h dots records external (sym (refusal-is s ram h dots records external) ∙ e),
-        ← add-zero (4 * y),
+        ← add-zero (recordBytes * y),
         record-byte ram s h y 0 l (omega arith),
       )
       (first-below ram (stateAfter ram y s))

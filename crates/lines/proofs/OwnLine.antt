@@ -8,6 +8,7 @@ use lib.Dec.{eqb, leb, ltb}
 use lib.ListN.{length, getD, take, drop, length-take, length-drop, List·getD-eq-default}
 use lib.Seq.{getD-take, getD-drop, ext-getD}
 use borrow.Author.Tests.{ltb-true, ltb-false, leb-true, eqb-true, le-ltb, le-leb}
+use Rattle.nick.specs.Sizes.{recordBytes}
 use Rattle.nick.specs.Blocks.{begun}
 use Rattle.nick.specs.Refusals.{illFormed, badExternal, paintingRefusal}
 use Rattle.nick.specs.Scanline.{lineDots}
@@ -91,7 +92,7 @@ part-fits external y from to p q fits = go (eqb (length external) 0) refl fits
 -- a line is never refused: its state is well-formed, its buffers fit, and no block runs past the end of RAM
 pub line-accepted : (s : State) (ram dots records external : List ℕ)
     → s .registers .lpl < 256 → s .scan .number < 4096 → s .scan .left ≤ 256
-    → length ram ≡ 65536 → length dots ≡ 736 → length records ≡ 4 → badExternal 1 external ≡ false
+    → length ram ≡ 65536 → length dots ≡ 736 → length records ≡ recordBytes → badExternal 1 external ≡ false
     → paintingRefusal s ram 1 dots records external ≡ 0
 unfolding paintingRefusal
 line-accepted s ram dots records external l n h full d r e =

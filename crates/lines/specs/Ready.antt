@@ -5,13 +5,14 @@ use mathlib.Core.Bool.{true, _||_}
 use mathlib.Core.List.{List}
 use lib.Dec.{eqb, leb}
 use lib.ListN.{length}
+use Rattle.nick.specs.Sizes.{recordBytes}
 use Rattle.nick.specs.declared.State.{State}
 
 -- the buffers of a frame
 pub record Sizes (h : ℕ) (d r : List ℕ) : Type 0 where
   pub height : h ≤ 1024
   pub dots : length d ≡ 736 * h
-  pub records : length r ≡ 4 * h
+  pub records : length r ≡ recordBytes * h
 
 -- a well-formed state, a whole RAM, and external input that is empty or has `dots` bytes at least
 pub record Ready (s : State) (ram : List ℕ) (dots : ℕ) (external : List ℕ) : Type 0 where

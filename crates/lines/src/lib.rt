@@ -2,10 +2,12 @@
 ghost use mathlib.Core.Path.{_≡_};
 ghost use Prim.Native.Nat.{_+_, _*_, _<_, _≤_};
 ghost use lib.ListN.{length};
+ghost use Rattle.nick.specs.Sizes.{recordBytes};
 ghost use Rattle.painting.specs.Frames.{NextLine, Frame};
 ghost use Rattle.lines.specs.Ready.{Sizes, Ready};
 ghost use Rattle.lines.specs.Refusals.{runRefusal};
 use lists::smaller;
+use nick::RECORD_BYTES;
 use nick::State;
 
 // The refusal of a run, 0 for none, given that of its register writes: the tests in the order of their numbers. The fresh
@@ -40,14 +42,14 @@ fn paint_next(
     records: &mut [u8],
     external: &[u8],
 ) -> State
-    requires { ⌜ (y < 1024) × (736 * y + 736 ≤ length (now dots)) × (4 * y + 4 ≤ length (now records)) ⌝ }
+    requires { ⌜ (y < 1024) × (736 * y + 736 ≤ length (now dots)) × (recordBytes * y + recordBytes ≤ length (now records)) ⌝ }
     requires { ⌜ Ready state (now ram) (736 * y + 736) (now external) ⌝ }
     ensures { λ r. ⌜ NextLine state (now (ram .entry)) y (now (external .entry)) (now (dots .entry)) (now (dots .exit)) (now (records .entry)) (now (records .exit)) r ⌝ }
 {
     let a = 736 * y;
     let e = a + 736;
-    let b = 4 * y;
-    let f = b + 4;
+    let b = RECORD_BYTES * y;
+    let f = b + RECORD_BYTES;
     let from = smaller(a, external.len());
     let to = smaller(e, external.len());
     let painted = painting::paint_line(

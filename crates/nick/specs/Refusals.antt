@@ -6,6 +6,7 @@ use mathlib.Core.List.{List}
 use lib.Dec.{eqb, ltb}
 use lib.ListN.{length}
 use Rattle.lists.specs.Choice.{pick}
+use Rattle.nick.specs.Sizes.{recordBytes}
 use Rattle.nick.specs.Blocks.{loads, loadedNumber}
 use Rattle.nick.specs.Scanline.{scanAfter}
 use Rattle.nick.specs.declared.Registers.{Registers}
@@ -30,7 +31,7 @@ badDots h dots = not (eqb (length dots) (736 * h))
 
 -- 7: "record buffer not 4 times the height"
 abbrev pub badRecords : ℕ → List ℕ → Bool
-badRecords h records = not (eqb (length records) (4 * h))
+badRecords h records = not (eqb (length records) (recordBytes * h))
 
 -- 8: "external input neither empty nor 736 times the height"
 abbrev pub badExternal : ℕ → List ℕ → Bool

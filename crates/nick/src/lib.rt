@@ -5,6 +5,9 @@ ghost use Rattle.nick.specs.Registers.{freshState, writeRefusal, written
 ghost use Rattle.nick.specs.Internal.{registeredAs};
 ghost use Rattle.nick.specs.Levels.{levelsOf};
 
+// How many bytes the record of a scanline has.
+pub const RECORD_BYTES: usize = 4;
+
 // The four registers that a program can write.
 pub struct Registers {
     pub fixbias: u8,

@@ -5,6 +5,7 @@
 ghost use mathlib.Core.Path.{_≡_};
 ghost use Prim.Native.Nat.{_*_, _≤_};
 ghost use lib.ListN.{length};
+ghost use Rattle.nick.specs.Sizes.{recordBytes};
 ghost use Rattle.lines.specs.Ready.{Ready};
 ghost use Rattle.lists.specs.Choice.{pick};
 ghost use Rattle.nickpaint.specs.Arguments.{linesStamped, stamps};
@@ -12,6 +13,7 @@ use files::Number;
 use libc::STDOUT_FILENO;
 use lines::paint_by_line;
 use lines::refusal;
+use nick::RECORD_BYTES;
 use nick::State;
 
 // The arguments after RAM and WRITES.
@@ -54,11 +56,11 @@ fn lines_stamped(height: Number) -> usize
 
 // Stamps the records, and writes those of the lines given to RECORDS.
 fn stamp(lines: usize, records: &mut [u8]) -> bool
-    requires { ⌜ 4 * lines ≤ length (now records) ⌝ }
+    requires { ⌜ recordBytes * lines ≤ length (now records) ⌝ }
     ensures { λ r. ⌜ now (records .exit) ≡ stamps (now (records .entry)) ⌝ }
 {
     lists::fill(records, 255);
-    let end = 4 * lines;
+    let end = RECORD_BYTES * lines;
     files::write_argument(RECORDS, &records[0..end])
 }
 
@@ -77,7 +79,7 @@ fn read_external(external: &mut [u8]) -> files::Contents
 
 // Writes RECORDS; where that fails, it is stamped again.
 fn write_records(height: usize, records: &mut [u8]) -> bool
-    requires { ⌜ 4 * height ≤ length (now records) ⌝ }
+    requires { ⌜ recordBytes * height ≤ length (now records) ⌝ }
     ensures { λ r. ⌜ now (records .exit) ≡ pick r (now (records .entry)) (stamps (now (records .entry))) ⌝ }
 {
     if files::write_argument(RECORDS, records) {
@@ -89,7 +91,7 @@ fn write_records(height: usize, records: &mut [u8]) -> bool
 
 // Writes DOTS, then RECORDS.
 fn write_painted(height: usize, dots: &[u8], records: &mut [u8])
-    requires { ⌜ 4 * height ≤ length (now records) ⌝ }
+    requires { ⌜ recordBytes * height ≤ length (now records) ⌝ }
 {
     if !files::write_argument(DOTS, dots) {
         files::print_unwritten(DOTS);
@@ -115,7 +117,7 @@ fn paint_and_write(
     requires { ⌜ Ready state (now ram) (736 * height) (now external) ⌝ }
 {
     let dots_end = 736 * height;
-    let records_end = 4 * height;
+    let records_end = RECORD_BYTES * height;
     paint_by_line(
         state,
         ram,

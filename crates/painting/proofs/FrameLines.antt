@@ -8,6 +8,7 @@ use lib.Dec.{eqb, ltb}
 use lib.ListN.{length, take, drop, replicate}
 use borrow.Author.Tests.{ltb-false, eqb-true, not-false}
 use Rattle.lists.proofs.Laws.{lent, front-all}
+use Rattle.nick.specs.Sizes.{recordBytes}
 use Rattle.nick.specs.Scanline.{lineDots}
 use Rattle.nick.specs.Record.{lineRecord, nextState, stateAfter}
 use Rattle.nick.specs.Refusals.{illFormed, notFull, badHeight, badDots, badRecords, paintingRefusal}
@@ -33,7 +34,7 @@ pub record Passed (s : State) (ram external : List ℕ) (h : ℕ) (dots₀ recor
   pub bytes : length records₁ ≡ length records₀
   pub state : t ≡ stateAfter ram y s
   pub dots : dots₁ ≡ frameDots ram external y s ++ drop (736 * y) dots₀
-  pub records : records₁ ≡ frameRecords ram y s ++ drop (4 * y) records₀
+  pub records : records₁ ≡ frameRecords ram y s ++ drop (recordBytes * y) records₀
   pub number : t .scan .number < 4096
   pub left : t .scan .left ≤ 256
 
@@ -51,12 +52,12 @@ module _ (s : State) (ram external : List ℕ) (h : ℕ) (dots₀ records₀ : L
 
     -- and its record
     records-more :
-        take (4 * y) records₁ ++ (lineRecord ram t ++ drop 4 (drop (4 * y) records₁))
-        ≡ frameRecords ram (suc y) s ++ drop (4 * suc y) records₀
+        take (recordBytes * y) records₁ ++ (lineRecord ram t ++ drop recordBytes (drop (recordBytes * y) records₁))
+        ≡ frameRecords ram (suc y) s ++ drop (recordBytes * suc y) records₀
     records-more =
-        let next : 4 * suc y ≡ 4 * y + 4 = omega arith in
+        let next : recordBytes * suc y ≡ recordBytes * y + recordBytes = omega arith in
         rw (p .records, p .state, next)
-        (lent (frameRecords ram y s) records₀ (lineRecord ram (stateAfter ram y s)) (4 * y) 4 (length-records ram s y))
+        (lent (frameRecords ram y s) records₀ (lineRecord ram (stateAfter ram y s)) (recordBytes * y) recordBytes (length-records ram s y))
 
     -- one line more
     pub passed-more : {dots₂ records₂ : List ℕ} {u : State}
@@ -77,12 +78,12 @@ module _ (s : State) (ram external : List ℕ) (h : ℕ) (dots₀ records₀ : L
     })
 
     -- all lines
-    pub passed-all : h ≤ y → length dots₀ ≡ 736 * h → length records₀ ≡ 4 * h → Frame s ram h external dots₁ records₁ t
+    pub passed-all : h ≤ y → length dots₀ ≡ 736 * h → length records₀ ≡ recordBytes * h → Frame s ram h external dots₁ records₁ t
     passed-all l d r =
         let all : y ≡ h = omega (arith, p .most) in
         rw (← all) (record {
           dots = p .dots ∙ front-all (frameDots ram external y s) dots₀ (736 * y) (omega (arith, all));
-          records = p .records ∙ front-all (frameRecords ram y s) records₀ (4 * y) (omega (arith, all));
+          records = p .records ∙ front-all (frameRecords ram y s) records₀ (recordBytes * y) (omega (arith, all));
           state = p .state;
         })
 
@@ -106,7 +107,7 @@ accepted-facts s ram h dots records external e =
       full = accepted-full s ram h dots records external e;
       height = most;
       places = eqb-true (length dots) (736 * h) (not-false (eqb (length dots) (736 * h)) (not-picked (badDots h dots) 5 _ e₆));
-      bytes = eqb-true (length records) (4 * h) (not-false (eqb (length records) (4 * h)) (not-picked (badRecords h records) 6 _ e₇));
+      bytes = eqb-true (length records) (recordBytes * h) (not-false (eqb (length records) (recordBytes * h)) (not-picked (badRecords h records) 6 _ e₇));
     }
 
 module _ (s : State) (ram : List ℕ) (h : ℕ) (dots records external : List ℕ) (n : ℕ)

@@ -3,6 +3,7 @@ use Prim.Native.Nat.{ℕ, _*_, _≤_, _<_}
 use mathlib.Core.Path.{_≡_}
 use mathlib.Core.List.{List, _++_}
 use lib.ListN.{length, take, drop}
+use Rattle.nick.specs.Sizes.{recordBytes}
 use Rattle.nick.specs.Scanline.{lineDots}
 use Rattle.nick.specs.Record.{lineRecord, nextState, stateAfter}
 use Rattle.nick.specs.Painting.{externalAt, frameDots, frameRecords, paint}
@@ -16,7 +17,7 @@ pub record Accepted (s : State) (ram : List ℕ) (h : ℕ) (dots records : List 
   pub full : length ram ≡ 65536
   pub height : h ≤ 1024
   pub places : length dots ≡ 736 * h
-  pub bytes : length records ≡ 4 * h
+  pub bytes : length records ≡ recordBytes * h
 
 -- line y painted into its parts of the buffers
 pub record NextLine (s : State) (ram : List ℕ) (y : ℕ) (external dots₀ dots₁ records₀ records₁ : List ℕ) (r : State) : Type 0 where
@@ -24,7 +25,7 @@ pub record NextLine (s : State) (ram : List ℕ) (y : ℕ) (external dots₀ dot
       dots₁
       ≡ take (736 * y) dots₀
       ++ (lineDots (s .registers) ram (s .scan) (externalAt external y) ++ drop 736 (drop (736 * y) dots₀))
-  pub records : records₁ ≡ take (4 * y) records₀ ++ (lineRecord ram s ++ drop 4 (drop (4 * y) records₀))
+  pub records : records₁ ≡ take (recordBytes * y) records₀ ++ (lineRecord ram s ++ drop recordBytes (drop (recordBytes * y) records₀))
   pub state : r ≡ nextState ram s
   pub number : r .scan .number < 4096
   pub left : r .scan .left ≤ 256

@@ -3,11 +3,13 @@
 ghost use mathlib.Core.Path.{_≡_};
 ghost use Prim.Native.Nat.{_+_, _*_, _<_, _≤_};
 ghost use lib.ListN.{length};
+ghost use Rattle.nick.specs.Sizes.{recordBytes};
 ghost use Rattle.nick.specs.Refusals.{paintingRefusal};
 ghost use mathlib.Core.Bool.{_||_};
 ghost use lib.Dec.{eqb};
 ghost use Rattle.painting.specs.Frames.{Accepted, NextLine, Frame, Paints};
 use nick::Painted;
+use nick::RECORD_BYTES;
 use nick::State;
 use scanline::paint_scanline;
 
@@ -48,7 +50,7 @@ fn refusal(
     if dots.len() != 736 * height {
         return 6;
     }
-    if records.len() != 4 * height {
+    if records.len() != RECORD_BYTES * height {
         return 7;
     }
     if !external_fits(external.len(), height) {
@@ -69,14 +71,14 @@ fn next_line(
     records: &mut [u8],
     external: &[u8],
 ) -> State
-    requires { ⌜ (length (now ram) ≡ 65536) × (y < 1024) × (736 * y + 736 ≤ length (now dots)) × (4 * y + 4 ≤ length (now records)) ⌝ }
+    requires { ⌜ (length (now ram) ≡ 65536) × (y < 1024) × (736 * y + 736 ≤ length (now dots)) × (recordBytes * y + recordBytes ≤ length (now records)) ⌝ }
     requires { ⌜ (state .scan .number < 4096) × (state .scan .left ≤ 256) ⌝ }
     ensures { λ r. ⌜ NextLine state (now (ram .entry)) y (now (external .entry)) (now (dots .entry)) (now (dots .exit)) (now (records .entry)) (now (records .exit)) r ⌝ }
 {
     let a = 736 * y;
     let e = a + 736;
-    let b = 4 * y;
-    let f = b + 4;
+    let b = RECORD_BYTES * y;
+    let f = b + RECORD_BYTES;
     paint_scanline(state, ram, &mut dots[a..e], &mut records[b..f], external, a)
 }
 

@@ -4,6 +4,7 @@ ghost use Rattle.cases.specs.Head.{Drawn};
 ghost use Rattle.random_frames.specs.Lengths.{Lent};
 use cases::Head;
 use lists::smaller;
+use nick::RECORD_BYTES;
 use nick::State;
 
 // A call: of one line or of `height` lines, from a state, with buffers of these lengths.
@@ -88,7 +89,7 @@ fn records_length(head: Head, lent: usize) -> usize
     requires { ⌜ lent ≤ 1025 ⌝ }
     ensures { λ r. ⌜ r ≤ 4104 ⌝ }
 {
-    let right = 4 * lent;
+    let right = RECORD_BYTES * lent;
     if cases::befalls(head, 5) {
         let t = head.t;
         return wrong(t[8], right, 4, 0);

@@ -3,6 +3,7 @@ ghost use mathlib.Core.Path.{_≡_};
 ghost use Prim.Native.Nat.{_+_, _*_, _-_, _<_, _≤_};
 ghost use lib.ListN.{length};
 ghost use Rattle.lists.specs.Choice.{pick};
+ghost use Rattle.nick.specs.Sizes.{recordBytes};
 ghost use Rattle.nick.specs.Slots.{modeOf, linePointers};
 ghost use mathlib.Core.List.{_∷_, []};
 ghost use Rattle.colour.specs.Cell.{paletteOf};
@@ -124,7 +125,7 @@ fn load_fetches(load: bool) -> u8
 
 // Writes the four bytes of a line record.
 fn put_record(recorded: &mut [u8], flags: u8, sync: u8, fetched: u8, slots: u8)
-    requires { ⌜ length (now recorded) ≡ 4 ⌝ }
+    requires { ⌜ length (now recorded) ≡ recordBytes ⌝ }
     ensures { λ r. ⌜ now (recorded .exit) ≡ flags ∷ sync ∷ fetched ∷ slots ∷ [] ⌝ }
 {
     recorded[0] = flags;
@@ -142,7 +143,7 @@ pub fn paint_scanline(
     external: &[u8],
     line: usize,
 ) -> State
-    requires { ⌜ (length (now ram) ≡ 65536) × (length (now dots) ≡ 736) × (length (now recorded) ≡ 4) × (line ≤ 752928) ⌝ }
+    requires { ⌜ (length (now ram) ≡ 65536) × (length (now dots) ≡ 736) × (length (now recorded) ≡ recordBytes) × (line ≤ 752928) ⌝ }
     requires { ⌜ (state .scan .number < 4096) × (state .scan .left ≤ 256) ⌝ }
     ensures { λ r. ⌜ Line state (now (ram .entry)) (now (external .entry)) line (now (dots .exit)) (now (recorded .exit)) r ⌝ }
 {

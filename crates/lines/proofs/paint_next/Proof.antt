@@ -10,6 +10,7 @@ use Rattle.lines.proofs.OwnLine.{own-line, part-fits, line-accepted, li
 use borrow.Author.Needs.{needs}
 use Rattle.lines.proofs.paint_next.Statement.{statement}
 use Rattle.lines.proofs.paint_next.Tie as tie
+use Rattle.nick.specs.Sizes.{recordBytes}
 
 mul-a : tie.Need-mul-a
 mul-a c = search needs
@@ -74,7 +75,7 @@ returns c =
     let to = c .before .before .before .before .before .before .before .before .before .smaller2 .result in
     let ready = c .before .before .before .before .before .before .before .before .before .before .before .before .before .before .before .pre .1 in
     let d = take (736 * y + 736 - 736 * y) (drop (736 * y) (a .dots .now)) in
-    let k = take (4 * y + 4 - 4 * y) (drop (4 * y) (a .records .now)) in
+    let k = take (recordBytes * y + recordBytes - recordBytes * y) (drop (recordBytes * y) (a .records .now)) in
     let part = take (to - from) (drop from (a .external .now)) in
     let e = c .before .before .before .before .before .paint-line .ensures in
     let low : s .registers .lpl < 256 = omega (arith, c .before .before .before .before .before .before .before .before .before .before .before .before .before .before .before .good) in
@@ -82,12 +83,12 @@ returns c =
     e .refusal
     ∙ refusal-is s (a .ram .now) 1 d k part
     ∙ line-accepted s (a .ram .now) d k part low (ready .number) (ready .left) (ready .full)
-    (part-length (a .dots .now) (736 * y) 736 (c .before .before .before .before .before .before .before .before .before .before .before .before .before .before .before .pre .0 .1)) (part-length (a .records .now) (4 * y) 4 (c .before .before .before .before .before .before .before .before .before .before .before .before .before .before .before .pre .0 .2))
+    (part-length (a .dots .now) (736 * y) 736 (c .before .before .before .before .before .before .before .before .before .before .before .before .before .before .before .pre .0 .1)) (part-length (a .records .now) (recordBytes * y) 4 (c .before .before .before .before .before .before .before .before .before .before .before .before .before .before .before .pre .0 .2))
     (part-fits (a .external .now) y from to (c .before .before .before .before .before .before .before .before .before .before .smaller .ensures) (c .before .before .before .before .before .before .before .before .before .smaller2 .ensures) (ready .fits)) in
     let formed = next-formed (a .ram .now) s low (ready .number) (ready .left) in
     let state = line-state _ _ _ _ _ _ _ _ e accepted in
     let dots-size : 736 * y + 736 - 736 * y ≡ 736 = omega arith in
-    let record-size : 4 * y + 4 - 4 * y ≡ 4 = omega arith in
+    let record-size : recordBytes * y + recordBytes - recordBytes * y ≡ recordBytes = omega arith in
     record {
       dots = rw (
         dots-size,

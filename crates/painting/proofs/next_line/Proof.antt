@@ -6,6 +6,7 @@ use Rattle.painting.proofs.FrameLines.{next-formed}
 use borrow.Author.Needs.{needs}
 use Rattle.painting.proofs.next_line.Statement.{statement}
 use Rattle.painting.proofs.next_line.Tie as tie
+use Rattle.nick.specs.Sizes.{recordBytes}
 
 mul-a : tie.Need-mul-a
 mul-a c = search needs
@@ -52,7 +53,7 @@ returns c =
     let a = c .before .before .before .before .before .before .before .before .before .before .before .args in
     let y = a .y in
     let dots-size : 736 * y + 736 - 736 * y ≡ 736 = omega arith in
-    let record-size : 4 * y + 4 - 4 * y ≡ 4 = omega arith in
+    let record-size : recordBytes * y + recordBytes - recordBytes * y ≡ recordBytes = omega arith in
     let formed = next-formed (a .ram .now) (a .state) (omega (arith, c .before .before .before .before .before .before .before .before .before .before .before .good)) (c .before .before .before .before .before .before .before .before .before .before .before .pre .1 .0) (c .before .before .before .before .before .before .before .before .before .before .before .pre .1 .1) in
     record {
       dots = rw (dots-size, e .dots);

@@ -3,6 +3,7 @@ use Prim.Native.Nat.{_*_}
 use lib.ListN.{length}
 use borrow.Author.Tests.{lt-ltb, le-ltb, eq-eqb, ne-eqb, not-true, not-false}
 use native.Mathlib.Omega.{arith}
+use Rattle.nick.specs.Sizes.{recordBytes}
 use Rattle.nick.specs.Refusals.{paintingRefusal}
 use borrow.Author.Needs.{needs}
 use Rattle.painting.proofs.refusal.Statement.{statement}
@@ -80,7 +81,7 @@ returns-7 c =
       ne-eqb (c .before .before .before .before .before .before .before .before .before .before .before .before .before .args .height) 0 (c .before .before .before .if4 .left),
       le-ltb 1024 (c .before .before .before .before .before .before .before .before .before .before .before .before .before .args .height) (c .before .before .if5 .left),
       eq-eqb (length (c .before .before .before .before .before .before .before .before .before .before .before .before .before .args .dots .now)) (736 * c .before .before .before .before .before .before .before .before .before .before .before .before .before .args .height) (omega arith),
-      ne-eqb (length (c .before .before .before .before .before .before .before .before .before .before .before .before .before .args .records .now)) (4 * c .before .before .before .before .before .before .before .before .before .before .before .before .before .args .height) (c .if7 .taken),
+      ne-eqb (length (c .before .before .before .before .before .before .before .before .before .before .before .before .before .args .records .now)) (recordBytes * c .before .before .before .before .before .before .before .before .before .before .before .before .before .args .height) (c .if7 .taken),
     )
 
 external-fits-requires : tie.Need-external-fits-requires
@@ -96,7 +97,7 @@ returns-8 c =
       ne-eqb (c .before .before .before .before .before .before .before .before .before .before .before .before .before .before .before .args .height) 0 (c .before .before .before .before .before .if4 .left),
       le-ltb 1024 (c .before .before .before .before .before .before .before .before .before .before .before .before .before .before .before .args .height) (c .before .before .before .before .if5 .left),
       eq-eqb (length (c .before .before .before .before .before .before .before .before .before .before .before .before .before .before .before .args .dots .now)) (736 * c .before .before .before .before .before .before .before .before .before .before .before .before .before .before .before .args .height) (omega arith),
-      eq-eqb (length (c .before .before .before .before .before .before .before .before .before .before .before .before .before .before .before .args .records .now)) (4 * c .before .before .before .before .before .before .before .before .before .before .before .before .before .before .before .args .height) (omega arith),
+      eq-eqb (length (c .before .before .before .before .before .before .before .before .before .before .before .before .before .before .before .args .records .now)) (recordBytes * c .before .before .before .before .before .before .before .before .before .before .before .before .before .before .before .args .height) (omega arith),
       ← (c .before .external-fits .ensures),
       not-true (c .before .external-fits .result) (c .if8 .taken),
     )
@@ -114,7 +115,7 @@ returns-9 c =
       ne-eqb (c .before .before .before .before .before .before .before .before .before .before .before .before .before .before .before .before .before .args .height) 0 (c .before .before .before .before .before .before .before .if4 .left),
       le-ltb 1024 (c .before .before .before .before .before .before .before .before .before .before .before .before .before .before .before .before .before .args .height) (c .before .before .before .before .before .before .if5 .left),
       eq-eqb (length (c .before .before .before .before .before .before .before .before .before .before .before .before .before .before .before .before .before .args .dots .now)) (736 * c .before .before .before .before .before .before .before .before .before .before .before .before .before .before .before .before .before .args .height) (omega arith),
-      eq-eqb (length (c .before .before .before .before .before .before .before .before .before .before .before .before .before .before .before .before .before .args .records .now)) (4 * c .before .before .before .before .before .before .before .before .before .before .before .before .before .before .before .before .before .args .height) (omega arith),
+      eq-eqb (length (c .before .before .before .before .before .before .before .before .before .before .before .before .before .before .before .before .before .args .records .now)) (recordBytes * c .before .before .before .before .before .before .before .before .before .before .before .before .before .before .before .before .before .args .height) (omega arith),
       ← (c .before .before .before .external-fits .ensures),
       not-false (c .before .before .before .external-fits .result) (c .before .before .if8 .left),
       ← (c .before .walk .ensures .past),
@@ -131,7 +132,7 @@ returns-10 c =
       ne-eqb (c .before .before .before .before .before .before .before .before .before .before .before .before .before .before .before .before .before .args .height) 0 (c .before .before .before .before .before .before .before .if4 .left),
       le-ltb 1024 (c .before .before .before .before .before .before .before .before .before .before .before .before .before .before .before .before .before .args .height) (c .before .before .before .before .before .before .if5 .left),
       eq-eqb (length (c .before .before .before .before .before .before .before .before .before .before .before .before .before .before .before .before .before .args .dots .now)) (736 * c .before .before .before .before .before .before .before .before .before .before .before .before .before .before .before .before .before .args .height) (omega arith),
-      eq-eqb (length (c .before .before .before .before .before .before .before .before .before .before .before .before .before .before .before .before .before .args .records .now)) (4 * c .before .before .before .before .before .before .before .before .before .before .before .before .before .before .before .before .before .args .height) (omega arith),
+      eq-eqb (length (c .before .before .before .before .before .before .before .before .before .before .before .before .before .before .before .before .before .args .records .now)) (recordBytes * c .before .before .before .before .before .before .before .before .before .before .before .before .before .before .before .before .before .args .height) (omega arith),
       ← (c .before .before .before .external-fits .ensures),
       not-false (c .before .before .before .external-fits .result) (c .before .before .if8 .left),
       ← (c .before .walk .ensures .past),
