@@ -19,6 +19,7 @@ use Rattle.nick.specs.External.{dotColour}
 use Rattle.nick.specs.Scanline.{activeAt, pointersAfter, lineDots, ended, nextScan, scanAfter}
 use Rattle.nick.specs.Refusals.{pastEnd, directRefusal}
 use Rattle.nick.specs.Direct.{namedIn, directColour, directNames, direct, loadOf, loadedOnTheWay, blockBytesUsed, dependsOn}
+use Rattle.nick.proofs.WellFormed.{block-sc}
 use Rattle.nick.specs.declared.Registers.{Registers}
 use Rattle.nick.specs.declared.Pointers.{Pointers}
 use Rattle.nick.specs.declared.Block.{Block}
@@ -77,10 +78,6 @@ loaded-alike g n b d sc mb = record { pending = refl; number = refl; left = rw s
 -- a block's bytes, in RAM
 block-byte : (ram : List ℕ) (n i : ℕ) → i < 16 → byteAt (take 16 (drop (16 * n) ram)) i ≡ byteAt ram (16 * n + i)
 block-byte ram n i h = getD-take 16 (drop (16 * n) ram) i 0 h ∙ getD-drop (16 * n) ram i 0
-
-block-sc : (ram : List ℕ) (n : ℕ) → blockAt ram n .sc ≡ byteAt ram (16 * n)
-unfolding blockAt decoded
-block-sc ram n = block-byte ram n 0 (omega arith) ∙ rw (add-zero (16 * n))
 
 block-mb : (ram : List ℕ) (n : ℕ) → blockAt ram n .mb ≡ byteAt ram (16 * n + 1)
 unfolding blockAt decoded

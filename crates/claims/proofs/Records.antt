@@ -8,6 +8,7 @@ use native.Mathlib.Nat.{add-zero}
 use native.Mathlib.Omega.{arith}
 use lib.ListN.{length, length-append, getD-replicate}
 use Rattle.lists.specs.Choice.{pick, number}
+use Rattle.lists.proofs.Tests.{number-le}
 use Rattle.nick.specs.Sizes.{recordBytes}
 use Rattle.nick.specs.Numbers.{bit, byteAt}
 use Rattle.nick.specs.Blocks.{vint, loads, loadedNumber, blockAddresses, begun}
@@ -24,21 +25,17 @@ use Rattle.nick.specs.declared.State.{State}
 use Rattle.claims.proofs.Frames.{record-byte}
 use Rattle.claims.proofs.Paintings.{refusal-is, accepted-is, refused-is}
 
-at-most-one : (t : Bool) → number t ≤ 1
-at-most-one true = omega arith
-at-most-one false = omega arith
-
 flags-below : (b : Block) (wasLow load last : Bool) → flags b wasLow load last < 64
 unfolding flags
 flags-below b wasLow load last =
     omega (
       arith,
-      at-most-one (vint b),
-      at-most-one (vint b && not wasLow),
-      at-most-one (not (syncs (modeOf b))),
-      at-most-one load,
-      at-most-one last,
-      at-most-one (isUnused (modeOf b)),
+      number-le (vint b),
+      number-le (vint b && not wasLow),
+      number-le (not (syncs (modeOf b))),
+      number-le load,
+      number-le last,
+      number-le (isUnused (modeOf b)),
     )
 
 pub first-below : (ram : List ℕ) (s : State) → byteAt (lineRecord ram s) 0 < 64

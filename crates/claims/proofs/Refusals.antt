@@ -1,6 +1,6 @@
 -- What the refusal table says of an accepted painting, and refusal 11 over scanlines in order.
-use mathlib.Core.Path.{_≡_, refl, sym, _∙_}
-use mathlib.Core.Bool.{Bool, true, false, _||_}
+use mathlib.Core.Path.{_≡_, sym, _∙_}
+use mathlib.Core.Bool.{false, _||_}
 use mathlib.Core.List.{List}
 use Prim.Native.Nat.{ℕ, zero, suc, _+_, _-_, _≤_}
 use native.Mathlib.Nat.{add-zero, add-suc}
@@ -8,7 +8,7 @@ use native.Mathlib.Omega.{arith}
 use lib.Dec.{eqb}
 use lib.ListN.{length}
 use borrow.Author.Tests.{eqb-true, not-false}
-use Rattle.lists.specs.Choice.{pick}
+use Rattle.lists.proofs.Tests.{or-false, or-assoc, or-first, not-picked, rest-zero}
 use Rattle.nick.specs.Scanline.{scanAfter}
 use Rattle.nick.specs.Refusals.{illFormed, notFull, badHeight, badDots, badRecords, badExternal, loadPastEnd, pastEnd, paintingRefusal}
 use Rattle.nick.specs.declared.Registers.{Registers}
@@ -16,37 +16,11 @@ use Rattle.nick.specs.declared.Scan.{Scan}
 use Rattle.nick.specs.declared.State.{State}
 use Rattle.claims.proofs.Scanlines.{scan-add}
 
--- a choice of numbers that gives 0: the test failed, and the rest is 0
-pub not-picked : (t : Bool) (n r : ℕ) → pick t (suc n) r ≡ 0 → t ≡ false
-not-picked true n r e = absurd (omega arith)
-not-picked false n r e = refl
-
-pub rest-zero : (t : Bool) (n r : ℕ) → pick t (suc n) r ≡ 0 → r ≡ 0
-rest-zero true n r e = absurd (omega arith)
-rest-zero false n r e = e
-
--- neither of two tests holds
-pub or-first : (a b : Bool) → a || b ≡ false → a ≡ false
-or-first true b e = e
-or-first false b e = refl
-
-pub or-rest : (a b : Bool) → a || b ≡ false → b ≡ false
-or-rest true b e = cc
-or-rest false b e = e
-
-or-none : (a : Bool) → a ≡ a || false
-or-none true = refl
-or-none false = refl
-
-or-assoc : (a b c : Bool) → (a || b) || c ≡ a || (b || c)
-or-assoc true b c = refl
-or-assoc false b c = refl
-
 -- refusal 11 over k + n scanlines is refusal 11 over k, or then over n
 pub past-end-add :
     (g : Registers) (ram : List ℕ) (k n : ℕ) (c : Scan)
     → pastEnd g ram (k + n) c ≡ pastEnd g ram k c || pastEnd g ram n (scanAfter g ram k c)
-past-end-add g ram k zero c = rw (add-zero k) (or-none (pastEnd g ram k c))
+past-end-add g ram k zero c = rw (add-zero k) (sym (or-false (pastEnd g ram k c)))
 past-end-add g ram k (suc n) c =
     let later = scanAfter g ram k c in
     rw (add-suc k n, past-end-add g ram k n c, scan-add g ram k n c)

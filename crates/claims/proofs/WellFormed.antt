@@ -8,6 +8,7 @@ use native.Mathlib.Omega.{arith}
 use lib.Dec.{ltb, eqb}
 use borrow.Author.Tests.{ltb-false, le-ltb}
 use Rattle.lists.specs.Choice.{pick}
+use Rattle.lists.proofs.Tests.{or-first, or-rest}
 use Rattle.nick.specs.Numbers.{isSet}
 use Rattle.nick.specs.Registers.{baseNumber}
 use Rattle.nick.specs.Blocks.{reload, loads, loadedNumber, blockAt, loaded, continued, begun}
@@ -20,7 +21,6 @@ use Rattle.nick.specs.declared.Block.{Block}
 use Rattle.nick.specs.declared.Scan.{Scan}
 use Rattle.nick.specs.declared.State.{State}
 use Rattle.claims.proofs.Scanlines.{registers-kept, scan-of-state}
-use Rattle.claims.proofs.Refusals.{or-first, or-rest}
 use Rattle.claims.proofs.Paintings.{paint-leaves}
 
 -- the bounds that refusal 3 tests

@@ -4,19 +4,14 @@ use mathlib.Core.Bool.{Bool, true, false, _&&_}
 use Prim.Native.Nat.{ℕ, zero, suc, _+_, _-_, _*_, _<_, _≤_, zero-le}
 use native.Mathlib.Nat.{not-suc-le-zero, le-of-suc-le-suc, le-refl, zero-mul, one-mul}
 use borrow.Author.Tests.{ne-eqb}
-use lib.Dec.{eqb, lit<}
+use lib.Dec.{lit<}
 use Rattle.lists.specs.Choice.{pick, number}
+use Rattle.lists.proofs.Tests.{bit-number}
 use Rattle.nick.specs.Numbers.{bit, isSet}
 use Rattle.nick.specs.Colour.{colourNumber, msbAlternate, lsbAlternate, graphicsAdded, graphicsByte, characterAdded}
 use Rattle.nick.specs.declared.Block.{Block}
 use Rattle.colour.specs.Cell.{BothSet, raised, graphicsCell, characterCell}
 use Rattle.colour.proofs.Bits.{bit-below}
-
--- a number below 2 is that of the test whether it is 1
-below-two : (n : ℕ) → n < 2 → n ≡ number (eqb n 1)
-below-two zero h = refl
-below-two (suc zero) h = refl
-below-two (suc (suc n)) h = absurd (not-suc-le-zero (le-of-suc-le-suc (le-of-suc-le-suc h)))
 
 times : (s t : Bool) → number s * number t ≡ number (s && t)
 times true true = refl
@@ -32,8 +27,8 @@ times-le (suc (suc a)) b h = absurd (not-suc-le-zero (le-of-suc-le-suc (le-of-su
 -- the product of two bits says whether both are set
 pub product : (margin k byte j : ℕ) → BothSet margin k byte j (bit k margin * bit j byte)
 product margin k byte j =
-    let p : bit k margin ≡ number (isSet k margin) = below-two (bit k margin) (bit-below k margin) in
-    let q : bit j byte ≡ number (isSet j byte) = below-two (bit j byte) (bit-below j byte) in
+    let p : bit k margin ≡ number (isSet k margin) = bit-number (bit k margin) (bit-below k margin) in
+    let q : bit j byte ≡ number (isSet j byte) = bit-number (bit j byte) (bit-below j byte) in
     record {
       both = cc (times (isSet k margin) (isSet j byte));
       bound = times-le (bit k margin) (bit j byte) (bit-below k margin);

@@ -5,6 +5,7 @@ use native.Mathlib.Nat.{not-suc-le-zero, le-of-suc-le-suc, mod-lt}
 use native.Mathlib.Omega.{arith}
 use lib.Dec.{eqb, lit<}
 use Rattle.lists.specs.Choice.{pick}
+use Rattle.lists.proofs.Tests.{pick-below}
 use Rattle.nick.specs.Numbers.{bit}
 use Rattle.nick.specs.Colour.{
   Colours,
@@ -25,7 +26,6 @@ use Rattle.nick.specs.Colour.{
   attributePixel,
 }
 use Rattle.nick.specs.declared.Block.{Block}
-use Rattle.nick.proofs.WellFormed.{pick-below}
 use Rattle.nick.specs.declared.Pixel.the-variants.{Palette}
 use Rattle.colour.specs.Cell.{raised, graphicsCell, characterCell, attributeCell, pixelIn, cellPixel, paletteNumber}
 use Rattle.colour.specs.declared.Cell.{Cell}

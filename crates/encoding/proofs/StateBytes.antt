@@ -7,7 +7,7 @@ use native.Mathlib.Omega.{arith}
 use lib.ListN.{length, take, drop}
 use lib.Seq.{take-length}
 use Rattle.lists.specs.Choice.{number}
-use Rattle.lists.proofs.Laws.{front-all}
+use Rattle.lists.proofs.Laws.{front-all, tab-places}
 use Rattle.nick.specs.Numbers.{isSet, byteAt}
 use Rattle.nick.specs.Blocks.{decoded}
 use Rattle.nick.specs.declared.State.{State}
@@ -15,16 +15,7 @@ use Rattle.encoding.specs.Encoding.{low, high, flagsOf, encoded, scanOf,
 
 -- a list of eight, place by place
 pub eight : (xs : List ℕ) → length xs ≡ 8 → byteAt xs 0 ∷ byteAt xs 1 ∷ byteAt xs 2 ∷ byteAt xs 3 ∷ byteAt xs 4 ∷ byteAt xs 5 ∷ byteAt xs 6 ∷ byteAt xs 7 ∷ [] ≡ xs
-eight [] h = absurd (omega arith)
-eight (a ∷ []) h = absurd (omega arith)
-eight (a ∷ b ∷ []) h = absurd (omega arith)
-eight (a ∷ b ∷ c ∷ []) h = absurd (omega arith)
-eight (a ∷ b ∷ c ∷ d ∷ []) h = absurd (omega arith)
-eight (a ∷ b ∷ c ∷ d ∷ e ∷ []) h = absurd (omega arith)
-eight (a ∷ b ∷ c ∷ d ∷ e ∷ f ∷ []) h = absurd (omega arith)
-eight (a ∷ b ∷ c ∷ d ∷ e ∷ f ∷ g ∷ []) h = absurd (omega arith)
-eight (a ∷ b ∷ c ∷ d ∷ e ∷ f ∷ g ∷ i ∷ []) h = refl
-eight (a ∷ b ∷ c ∷ d ∷ e ∷ f ∷ g ∷ i ∷ x ∷ more) h = absurd (omega arith)
+eight xs h = rw h at (tab-places 0 xs)
 
 -- a list copied over another of its length
 pub copied : (xs ys zs : List ℕ) → zs ≡ take (length xs) xs ++ drop (length xs) ys → length ys ≤ length xs → zs ≡ xs

@@ -1,6 +1,6 @@
 -- Laws on the number that digits spell: a byte that is none spoils every longer text, and the bound may be taken early.
-use mathlib.Core.Path.{_≡_, refl}
-use mathlib.Core.Bool.{Bool, true, false, _&&_, _||_}
+use mathlib.Core.Path.{_≡_}
+use mathlib.Core.Bool.{true, false}
 use mathlib.Core.List.{List}
 use Prim.Native.Nat.{ℕ, zero, suc, _+_, _-_, _*_, _≤_, _<_, min}
 use native.Mathlib.Nat.{add-zero, add-suc}
@@ -9,16 +9,9 @@ use native.Mathlib.Omega.{arith}
 use lib.Dec.{eqb}
 use lib.ListN.{length, getD}
 use borrow.Author.Tests.{lt-ltb, le-ltb, ne-eqb}
+use Rattle.lists.proofs.Tests.{and-false, or-true}
 use Rattle.files.specs.Numbers.{digit, digits, value, numberOf}
 use Rattle.files.specs.declared.argument.Number.the-variants.{Value, Missing}
-
-and-false : (b : Bool) → b && false ≡ false
-and-false true = refl
-and-false false = refl
-
-or-true : (b : Bool) → b || true ≡ true
-or-true true = refl
-or-true false = refl
 
 module _ (text : List ℕ) where
   -- k bytes after a byte that is no digit

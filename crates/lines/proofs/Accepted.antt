@@ -8,8 +8,8 @@ use lib.Dec.{eqb, leb, ltb}
 use lib.ListN.{length}
 use borrow.Author.Tests.{ltb-false, eqb-true, eqb-false, not-false, le-leb}
 use Rattle.lists.specs.Choice.{pick}
+use Rattle.lists.proofs.Tests.{or-rest, not-picked, rest-zero}
 use Rattle.nick.specs.Refusals.{notFull, badHeight, badExternal}
-use Rattle.claims.proofs.Refusals.{not-picked, rest-zero, or-rest}
 use Rattle.lines.specs.Refusals.{runRefusal}
 
 first-zero : (n r : ℕ) → pick (not (eqb n 0)) n r ≡ 0 → r ≡ 0

@@ -12,10 +12,11 @@ use Rattle.nick.specs.Blocks.{decoded, blockAt, vint, vres, reload}
 use Rattle.nick.specs.Slots.{modeNumber}
 use Rattle.nick.specs.Colour.{colourNumber}
 use Rattle.nick.specs.Listing.{TAB, decimal, modeName, colourCount, tabbed, numbersAfterName, blockLine, blockLines, blocksListed, listing}
+use Rattle.nick.proofs.Modes.{below-eight}
 use Rattle.nick.specs.declared.Registers.{Registers}
 use Rattle.listing.specs.Lines.{lineAfter, wordLine}
 use Rattle.text.proofs.Decimal.{decimal-length}
-use Rattle.listing.proofs.Pieces.{each-mode, line-length, word-length, header, endTab, header-text, end-text}
+use Rattle.listing.proofs.Pieces.{line-length, word-length, header, endTab, header-text, end-text}
 use Rattle.listing.proofs.Table.{listed-limit}
 
 -- every place of a list holds a byte, of a part of the list too
@@ -63,7 +64,7 @@ colour-digits (suc (suc (suc (suc n)))) = decimal-length 2 0 (omega arith)
 
 name-bound : (mode : ℕ) → mode < 8 → length (modeName mode) ≤ 6
 unfolding modeName
-name-bound = each-mode (λ m. length (modeName m) ≤ 6) (omega arith) (omega arith) (omega arith) (omega arith) (omega arith) (omega arith) (omega arith) (omega arith)
+name-bound = below-eight (λ m. length (modeName m) ≤ 6) (omega arith) (omega arith) (omega arith) (omega arith) (omega arith) (omega arith) (omega arith) (omega arith)
 
 byte-digits : (n : ℕ) → n < 256 → length (decimal n) ≤ 3
 byte-digits n h = decimal-length 2 n (omega arith)

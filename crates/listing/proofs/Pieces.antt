@@ -1,18 +1,18 @@
 -- Laws on the pieces of a block's line: names, bits, colours and tabbed numbers, and the line's length.
 use mathlib.Core.Path.{_≡_, refl}
 use mathlib.Core.List.{List, [], _∷_, _++_}
-use Prim.Native.Nat.{ℕ, zero, suc, _+_, _-_, _*_, _/_, _%_, _<_, _≤_}
-use native.Mathlib.Nat.{not-suc-le-zero, le-of-suc-le-suc, div-one}
+use Prim.Native.Nat.{ℕ, suc, _+_, _-_, _*_, _/_, _%_, _<_, _≤_}
+use native.Mathlib.Nat.{div-one}
 use native.Mathlib.Omega.{arith}
 use lib.Dec.{eqb}
 use lib.ListN.{length, getD, take, drop, length-append}
-use lib.Seq.{ext-getD}
 use Rattle.lists.specs.Choice.{number}
-use Rattle.lists.specs.Tab.{tab}
-use Rattle.lists.proofs.Laws.{length-tab, getD-tab}
+use Rattle.lists.proofs.Tests.{bit-number}
+use Rattle.lists.proofs.Laws.{tab-places}
 use Rattle.nick.specs.Registers.{baseNumber}
 use Rattle.nick.specs.Slots.{modeNumber}
 use Rattle.nick.specs.Listing.{TAB, LF, headerWord, endWord, decimal, modeName, colourCount, tabbed, numbersAfterName, blockLine, headerLine, endLine}
+use Rattle.nick.proofs.Modes.{below-eight}
 use Rattle.nick.specs.declared.Registers.{Registers}
 use Rattle.nick.specs.declared.Block.{Block}
 use Rattle.text.specs.Text.{Room, Wrote}
@@ -35,24 +35,12 @@ names =
 abbrev pub nameLength : ℕ → ℕ
 nameLength mode = getD (5 ∷ 5 ∷ 4 ∷ 5 ∷ 5 ∷ 4 ∷ 6 ∷ 6 ∷ []) mode 0
 
--- a fact of each mode number
-pub each-mode : (P : ℕ → Type 0) → P 0 → P 1 → P 2 → P 3 → P 4 → P 5 → P 6 → P 7 → (mode : ℕ) → mode < 8 → P mode
-each-mode P p0 p1 p2 p3 p4 p5 p6 p7 zero h = p0
-each-mode P p0 p1 p2 p3 p4 p5 p6 p7 (suc zero) h = p1
-each-mode P p0 p1 p2 p3 p4 p5 p6 p7 (suc (suc zero)) h = p2
-each-mode P p0 p1 p2 p3 p4 p5 p6 p7 (suc (suc (suc zero))) h = p3
-each-mode P p0 p1 p2 p3 p4 p5 p6 p7 (suc (suc (suc (suc zero)))) h = p4
-each-mode P p0 p1 p2 p3 p4 p5 p6 p7 (suc (suc (suc (suc (suc zero))))) h = p5
-each-mode P p0 p1 p2 p3 p4 p5 p6 p7 (suc (suc (suc (suc (suc (suc zero)))))) h = p6
-each-mode P p0 p1 p2 p3 p4 p5 p6 p7 (suc (suc (suc (suc (suc (suc (suc zero))))))) h = p7
-each-mode P p0 p1 p2 p3 p4 p5 p6 p7 (suc (suc (suc (suc (suc (suc (suc (suc n)))))))) h = absurd (omega arith)
-
 pub name-length : (mode : ℕ) → mode < 8 → nameLength mode ≤ 6
-name-length = each-mode (λ m. nameLength m ≤ 6) (omega arith) (omega arith) (omega arith) (omega arith) (omega arith) (omega arith) (omega arith) (omega arith)
+name-length = below-eight (λ m. nameLength m ≤ 6) (omega arith) (omega arith) (omega arith) (omega arith) (omega arith) (omega arith) (omega arith) (omega arith)
 
 name-part : (mode : ℕ) → mode < 8 → take (6 * mode + nameLength mode - 6 * mode) (drop (6 * mode) names) ≡ modeName mode
 unfolding modeName
-name-part = each-mode (λ m. take (6 * m + nameLength m - 6 * m) (drop (6 * m) names) ≡ modeName m) refl refl refl refl refl refl refl refl
+name-part = below-eight (λ m. take (6 * m + nameLength m - 6 * m) (drop (6 * m) names) ≡ modeName m) refl refl refl refl refl refl refl refl
 
 -- the part of the table that is the mode's name has room where the name has, and is the name
 pub name-room : (at mode : ℕ) → mode < 8 → Room at (modeName mode) → Room at (take (6 * mode + nameLength mode - 6 * mode) (drop (6 * mode) names))
@@ -62,25 +50,15 @@ pub name-wrote : {out left : List ℕ} {at end : ℕ} (mode : ℕ) → mode < 8 
 name-wrote mode h w = rw (name-part mode h) at w
 
 -- a bit as a number
-bit-number : (n : ℕ) → n < 2 → n ≡ number (eqb n 1)
-bit-number zero h = refl
-bit-number (suc zero) h = refl
-bit-number (suc (suc n)) h = absurd (not-suc-le-zero (le-of-suc-le-suc (le-of-suc-le-suc h)))
-
 pub number-bit : (x : ℕ) → x % 2 ≡ number (eqb (x % 2) 1)
 number-bit x = bit-number (x % 2) (omega arith)
 
--- a list of eight is its eight places
-tab-places : (xs : List ℕ) → tab (λ i. getD xs i 0) (length xs) ≡ xs
-tab-places xs =
-    let e = length-tab (λ i. getD xs i 0) (length xs) in
-    ext-getD 0 (tab (λ i. getD xs i 0) (length xs)) xs e (λ i h. getD-tab (λ j. getD xs j 0) (length xs) i 0 (rw e at h))
-
+-- eight numbers that are the places of a list of eight are that list
 pub eight-places : (xs : List ℕ) {c0 c1 c2 c3 c4 c5 c6 c7 : ℕ} → length xs ≡ 8
     → c0 ≡ getD xs 0 0 → c1 ≡ getD xs 1 0 → c2 ≡ getD xs 2 0 → c3 ≡ getD xs 3 0
     → c4 ≡ getD xs 4 0 → c5 ≡ getD xs 5 0 → c6 ≡ getD xs 6 0 → c7 ≡ getD xs 7 0
     → c0 ∷ c1 ∷ c2 ∷ c3 ∷ c4 ∷ c5 ∷ c6 ∷ c7 ∷ [] ≡ xs
-eight-places xs e e0 e1 e2 e3 e4 e5 e6 e7 = rw (e0, e1, e2, e3, e4, e5, e6, e7) (rw e at (tab-places xs))
+eight-places xs e e0 e1 e2 e3 e4 e5 e6 e7 = rw (e0, e1, e2, e3, e4, e5, e6, e7) (rw e at (tab-places 0 xs))
 
 -- the numbers after the name, as the code computes them
 pub numbers-are : (b : Block) (colours : List ℕ) → colours ≡ b .col

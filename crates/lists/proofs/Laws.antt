@@ -2,14 +2,12 @@
 use mathlib.Core.Path.{_≡_, refl, sym, ap, _∙_}
 use mathlib.Core.List.{List, [], _∷_, _++_, append-nil, append-assoc}
 use Prim.Native.Nat.{ℕ, zero, suc, _+_, _-_, _≤_, _<_, min}
-use native.Mathlib.Nat.{add-zero, add-suc, not-suc-le-zero}
+use native.Mathlib.Nat.{zero-add, add-zero, add-suc, not-suc-le-zero}
 use native.Mathlib.Numerals.{add-one}
 use native.Mathlib.Decide.{decLt}
 use native.Mathlib.Omega.{arith}
 use lib.ListN.{length, getD, take, drop, set, replicate, length-append, length-take, length-drop, drop-of-length-le, replicate-append-replicate, List·getD-append}
-use lib.Seq.{take-at, drop-at, drop-drop, set-at, drop-cons, getD-at}
-use mathlib.Core.Bool.{Bool, true, false}
-use Rattle.lists.specs.Choice.{number}
+use lib.Seq.{take-at, drop-at, drop-drop, set-at, drop-cons, getD-at, ext-getD, sets, sets-eq}
 use Rattle.lists.specs.Tab.{tab}
 
 module _ {ℓ} {A : Type ℓ} where
@@ -46,10 +44,16 @@ module _ {ℓ} {A : Type ℓ} where
           let e : i ≡ n = omega arith in
           rw e (getD-at (tab f n) (f n) [] d n (length-tab f n))
 
--- a test as a number is at most 1
-pub number-le : (b : Bool) → number b ≤ 1
-number-le true = omega arith
-number-le false = omega arith
+  -- a list is its places, one after another
+  pub tab-places : (d : A) (xs : List A) → tab (λ i. getD xs i d) (length xs) ≡ xs
+  tab-places d xs =
+      let e = length-tab (λ i. getD xs i d) (length xs) in
+      ext-getD d (tab (λ i. getD xs i d) (length xs)) xs e (λ i h. getD-tab (λ j. getD xs j d) (length xs) i d (rw e at h))
+
+  -- as many stores as a list has places make it anew
+  pub stored-all : (xs ys : List A) → length xs ≡ length ys → sets xs 0 ys ≡ ys
+  stored-all xs ys h =
+      sets-eq ys xs 0 (omega arith) ∙ rw (zero-add (length ys)) (front-all ys xs (length ys) (omega arith))
 
 module _ {ℓ} {A : Type ℓ} where
   -- two rules that agree on the places make the same list

@@ -10,17 +10,13 @@ use lib.Dec.{eqb}
 use lib.ListN.{drop}
 use lib.Seq.{getD-take, getD-drop}
 use Rattle.lists.specs.Choice.{pick}
+use Rattle.lists.proofs.Tests.{pick-below}
 use Rattle.nick.specs.Numbers.{isSet, byteAt}
 use Rattle.nick.specs.Registers.{baseNumber}
 use Rattle.nick.specs.Blocks.{reload, loads, loadedNumber, decoded, blockAt, loaded, continued, begun}
 use Rattle.nick.specs.Scanline.{ended, nextScan}
 use Rattle.nick.specs.declared.Registers.{Registers}
 use Rattle.nick.specs.declared.Scan.{Scan}
-
--- either of two numbers below a bound
-pub pick-below : (t : Bool) (a b n : ℕ) → a < n → b < n → pick t a b < n
-pick-below true a b n ha hb = ha
-pick-below false a b n ha hb = hb
 
 pub base-below : (g : Registers) → g .lpl < 256 → baseNumber g < 4096
 base-below g h = omega arith

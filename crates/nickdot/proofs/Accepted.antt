@@ -8,12 +8,12 @@ use lib.Dec.{eqb}
 use lib.ListN.{length}
 use borrow.Author.Tests.{eqb-true, not-false, eq-eqb, ne-eqb}
 use Rattle.lists.specs.Choice.{pick}
+use Rattle.lists.proofs.Tests.{not-picked, rest-zero}
 use Rattle.nick.specs.Refusals.{illFormed, notFull, directRefusal}
 use Rattle.nick.specs.Direct.{Answered, colour, refused, directColour, directNames, direct}
 use Rattle.nick.specs.declared.State.{State}
 use Rattle.nick.specs.declared.Written.{Written}
 use Rattle.files.specs.Writes.{writtenAll}
-use Rattle.claims.proofs.Refusals.{not-picked, rest-zero}
 use Rattle.nickdot.specs.Answers.{answerFrom, answerAfter}
 
 coloured : (n c d : ℕ) (ns ms : List ℕ) → colour c ns ≡ pick (eqb n 0) (colour d ms) (refused n) → n ≡ 0

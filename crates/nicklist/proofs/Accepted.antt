@@ -8,6 +8,7 @@ use lib.Dec.{eqb, ltb}
 use lib.ListN.{length}
 use borrow.Author.Tests.{eqb-true, ltb-false, eq-eqb, ne-eqb}
 use Rattle.lists.specs.Choice.{pick}
+use Rattle.lists.proofs.Tests.{not-picked, rest-zero}
 use Rattle.nick.specs.Refusals.{notFull, listingRefusal}
 use Rattle.nick.specs.Listing.{listing, listAnswer, listOutput}
 use Rattle.nick.specs.declared.Registers.{Registers}
@@ -15,7 +16,6 @@ use Rattle.nick.specs.declared.Listed.{Listed}
 use Rattle.nick.specs.declared.Listed.the-variants.{Length, Refused}
 use Rattle.nick.specs.declared.Written.{Written}
 use Rattle.files.specs.Writes.{writtenAll}
-use Rattle.claims.proofs.Refusals.{not-picked, rest-zero}
 use Rattle.nicklist.specs.Lists.{ListsAfter}
 
 listed : (n k l : ℕ) → Length k ≡ pick (eqb n 0) (Length l) (Refused n) → (n ≡ 0) × (k ≡ l)

@@ -7,6 +7,7 @@ use native.Mathlib.Omega.{arith}
 use lib.Dec.{eqb, ltb}
 use lib.ListN.{length, take, drop, replicate}
 use borrow.Author.Tests.{ltb-false, eqb-true, not-false}
+use Rattle.lists.proofs.Tests.{or-first, or-rest, not-picked, rest-zero}
 use Rattle.lists.proofs.Laws.{lent, front-all}
 use Rattle.nick.specs.Sizes.{recordBytes}
 use Rattle.nick.specs.Scanline.{lineDots}
@@ -17,7 +18,7 @@ use Rattle.nick.specs.declared.State.{State}
 use Rattle.nick.proofs.WellFormed.{next-number, next-left}
 use Rattle.claims.proofs.Scanlines.{registers-kept}
 use Rattle.claims.proofs.Frames.{length-dots, length-records}
-use Rattle.claims.proofs.Refusals.{not-picked, rest-zero, or-first, or-rest, accepted-formed, accepted-full}
+use Rattle.claims.proofs.Refusals.{accepted-formed, accepted-full}
 use Rattle.claims.proofs.Paintings.{accepted-is, refused-is}
 use Rattle.painting.specs.Frames.{Accepted, NextLine, Frame, Paints}
 

@@ -1,10 +1,10 @@
 -- Laws on the dot slots of a scanline: one slot more, and all of them.
-use mathlib.Core.Path.{_≡_, refl, sym, ap, _∙_}
-use mathlib.Core.List.{List, [], _∷_, _++_}
+use mathlib.Core.Path.{_≡_, sym, ap, _∙_}
+use mathlib.Core.List.{List, _++_}
 use Prim.Native.Nat.{ℕ, suc, _+_, _*_}
 use native.Mathlib.Numerals.{add-one}
 use native.Mathlib.Omega.{arith}
-use lib.ListN.{length, take, drop, set, length-append}
+use lib.ListN.{length, take, drop, length-append}
 use Rattle.lists.proofs.Laws.{lent, front-all}
 use Rattle.nick.specs.Scanline.{activeAt, pointersAfter, slotAddresses, slotsFetched, slotDots, slotsDots, begunDots}
 use Rattle.claims.proofs.Slots.{length-slots}
@@ -44,12 +44,3 @@ pub fetched-more : (ram : List ℕ) (b : Block) (n : ℕ) (p q : Pointers) (k : 
     → k + length (slotAddresses (activeAt b n) ram b q) ≡ length (slotsFetched ram b (n + 1) p)
 fetched-more ram b n p q k e f =
     rw (e, f, add-one n) (sym (length-append (slotsFetched ram b n p) (slotAddresses (activeAt b n) ram b (pointersAfter b n p))))
-
--- four stores fill a list of four
-pub four-stored : (xs : List ℕ) (a b c d : ℕ) → length xs ≡ 4 → set (set (set (set xs 0 a) 1 b) 2 c) 3 d ≡ a ∷ b ∷ c ∷ d ∷ []
-four-stored [] a b c d h = absurd (omega arith)
-four-stored (v ∷ []) a b c d h = absurd (omega arith)
-four-stored (v ∷ w ∷ []) a b c d h = absurd (omega arith)
-four-stored (v ∷ w ∷ x ∷ []) a b c d h = absurd (omega arith)
-four-stored (v ∷ w ∷ x ∷ y ∷ []) a b c d h = refl
-four-stored (v ∷ w ∷ x ∷ y ∷ z ∷ more) a b c d h = absurd (omega arith)

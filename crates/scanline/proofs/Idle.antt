@@ -8,6 +8,7 @@ use native.Mathlib.Omega.{arith}
 use borrow.Author.Tests.{le-leb, lt-leb, le-ltb}
 use lib.ListN.{length, replicate, replicate-append-replicate}
 use Rattle.lists.specs.Choice.{pick}
+use Rattle.lists.proofs.Tests.{and-false}
 use Rattle.lists.proofs.Laws.{tab-same, tab-one}
 use Rattle.nick.specs.Numbers.{byteAt}
 use Rattle.nick.specs.Slots.{
@@ -45,10 +46,6 @@ idle b n h = go (modeFetches (modeOf b)) h
     outside : activeSlots b ≡ 0 → Dec (leftMargin b ≤ 8 + n) → activeAt b n ≡ false
     outside e (yes l) = rw (le-leb (leftMargin b) (8 + n) l, le-ltb (8 + n) (rightMargin b) (omega arith))
     outside e (no l) = rw (lt-leb (leftMargin b) (8 + n) (omega arith))
-
-    and-false : (t : Bool) → t && false ≡ false
-    and-false true = refl
-    and-false false = refl
 
     go : (t : Bool) → pick t (activeSlots b) 0 ≡ 0 → activeAt b n && t ≡ false
     go true e = rw (outside e (decLe (leftMargin b) (8 + n)))

@@ -1,12 +1,13 @@
 -- Laws on several scanlines: those of one mode line in one step.
 use mathlib.Core.Path.{_≡_, refl, ap, _∙_}
-use mathlib.Core.Bool.{Bool, true, false, _||_}
+use mathlib.Core.Bool.{Bool, true, false}
 use mathlib.Core.List.{List}
 use Prim.Native.Nat.{ℕ, zero, suc, _-_, _*_, _<_}
 use native.Mathlib.Nat.{add-zero, one-mul, suc-mul, zero-lt-suc}
 use native.Mathlib.Omega.{arith}
 use borrow.Author.Tests.{ne-eqb}
 use Rattle.lists.specs.Choice.{pick}
+use Rattle.lists.proofs.Tests.{or-false}
 use Rattle.nick.specs.Numbers.{up}
 use Rattle.nick.specs.Blocks.{vres, loads, loadedNumber, blockAt, loaded, continued, begun}
 use Rattle.nick.specs.Slots.{modeOf, linePointers}
@@ -26,10 +27,6 @@ pick-same false a = refl
 pick-twice {ℓ} : {A : Type ℓ} (t : Bool) (a b : A) → pick t (pick t a b) b ≡ pick t a b
 pick-twice true a b = refl
 pick-twice false a b = refl
-
-or-false : (t : Bool) → t || false ≡ t
-or-false true = refl
-or-false false = refl
 
 -- a scan that begins, by whether it loads
 abbrev pub begunBy : Bool → Registers → List ℕ → Scan → Scan

@@ -8,13 +8,14 @@ use native.Mathlib.Omega.{arith}
 use lib.Dec.{eqb}
 use borrow.Author.Tests.{eqb-false}
 use Rattle.lists.specs.Choice.{pick}
+use Rattle.lists.proofs.Tests.{or-rest}
 use Rattle.nick.specs.Blocks.{loads, loaded, continued, begun}
 use Rattle.nick.specs.Refusals.{loadPastEnd, pastEnd}
 use Rattle.nick.specs.declared.Registers.{Registers}
 use Rattle.nick.specs.declared.Scan.{Scan}
 use Rattle.nick.proofs.WellFormed.{begun-number}
 use Rattle.claims.proofs.Scanlines.{scan-add}
-use Rattle.claims.proofs.Refusals.{or-rest, past-end-add}
+use Rattle.claims.proofs.Refusals.{past-end-add}
 use Rattle.walk.specs.Steps.{skipped}
 use Rattle.walk.specs.Walks.{Formed, Reached}
 use Rattle.walk.proofs.Rises.{Sixteen}

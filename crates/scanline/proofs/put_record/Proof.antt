@@ -1,5 +1,6 @@
--- `scanline::put_record`: four stores make the whole of a list of four.
-use Rattle.scanline.proofs.DotSlots.{four-stored}
+-- `scanline::put_record`: as many stores as the record has bytes make the whole of it.
+use mathlib.Core.List.{[], _∷_}
+use Rattle.lists.proofs.Laws.{stored-all}
 use borrow.Author.Needs.{needs}
 use Rattle.scanline.proofs.put_record.Statement.{statement}
 use Rattle.scanline.proofs.put_record.Tie as tie
@@ -20,7 +21,8 @@ same-length : tie.Need-same-length
 same-length c = search needs
 
 returns : tie.Need-returns
-returns c = four-stored (c .args .recorded .now) (c .args .flags) (c .args .sync) (c .args .fetched) (c .args .slots) (c .pre)
+returns c =
+    let a = c .args in stored-all (a .recorded .now) (a .flags ∷ a .sync ∷ a .fetched ∷ a .slots ∷ []) (c .pre)
 
 pub put-record-spec : {M : Type 1} → statement M
 put-record-spec =

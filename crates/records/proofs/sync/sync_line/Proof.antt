@@ -4,7 +4,7 @@ use Prim.Native.Nat.{ℕ, suc, _-_, _/_, _%_, _≤_}
 use native.Mathlib.Numerals.{add-one}
 use native.Mathlib.Omega.{arith}
 use borrow.Author.Tests.{eq-eqb, ne-eqb}
-use Rattle.lists.proofs.Laws.{number-le}
+use Rattle.lists.proofs.Tests.{number-le}
 use Rattle.nick.specs.Sync.{syncAt, syncAfter, syncCount, lineSync, lineSyncCount}
 use Rattle.nick.proofs.Modes.{syncs-zero}
 use borrow.Author.Needs.{needs}
