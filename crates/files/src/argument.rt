@@ -64,6 +64,15 @@ pub fn write_argument(i: usize, bytes: &[u8]) -> bool {
     is_written && is_closed
 }
 
+// Whether two arguments are the same text.
+pub fn is_same_argument(i: usize, j: usize) -> bool {
+    let mut first = io::buffer();
+    let mut second = io::buffer();
+    let n = os::arg(i, &mut first);
+    let m = os::arg(j, &mut second);
+    check::same(&first[..n], &second[..m])
+}
+
 // The value of a digit; 10 for any other byte.
 fn digit(byte: u8) -> usize
     ensures { λ r. ⌜ (r ≡ Numbers·digit byte) × (r ≤ 10) ⌝ }

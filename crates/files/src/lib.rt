@@ -6,6 +6,7 @@ mod writes;
 
 pub use argument::Contents;
 pub use argument::Number;
+pub use argument::is_same_argument;
 pub use argument::number_argument;
 pub use argument::read_argument;
 pub use argument::write_argument;

@@ -28,7 +28,7 @@ const EXTERNAL: usize = 6;
 fn print_usage() {
     io::write_all(
         STDOUT_FILENO,
-        b"usage: nickpaint RAM WRITES HEIGHT DOTS RECORDS [EXTERNAL]; WRITES is pairs of bytes, port and value, at most 32,768\n",
+        b"usage: nickpaint RAM WRITES HEIGHT DOTS RECORDS [EXTERNAL]; WRITES is pairs of bytes, port and value, at most 32,768; DOTS and RECORDS are two files\n",
     );
 }
 
@@ -222,6 +222,10 @@ fn run_lent(
         return;
     }
     if EXTERNAL + 1 < count {
+        print_usage();
+        return;
+    }
+    if files::is_same_argument(DOTS, RECORDS) {
         print_usage();
         return;
     }
