@@ -30,8 +30,8 @@ pub fn digest_word(digest: u64, word: u16) -> u64 {
 
 // The digest after a number in four bytes, low byte first.
 pub fn digest_number(digest: u64, number: u64) -> u64 {
-    let low = digest_word(digest, (number % 65536) as u16);
-    digest_word(low, (number / 65536 % 65536) as u16)
+    let half = digest_word(digest, (number % 65536) as u16);
+    digest_word(half, (number / 65536 % 65536) as u16)
 }
 
 // The digest after the 32 bytes of a state.

@@ -11,7 +11,6 @@ pub use argument::number_argument;
 pub use argument::read_argument;
 pub use argument::write_argument;
 pub use inputs::Inputs;
-pub use inputs::RAM;
 pub use inputs::WRITES;
 pub use inputs::read_inputs;
 pub use print::print_refusal;
