@@ -48,7 +48,7 @@ extern "C" {
  *    8  external input neither empty nor 736 times the height
  *    9  direct answer: line over 1,023 or dot over 735
  *   10  listing: output shorter than the whole listing
- *   11  a block to be loaded would run past address 65,535
+ *   11  given by no call
  *
  * A refused call leaves every byte of the state, the dots and the listing's output as it was. A refused painting writes 255
  * over the whole record buffer, whatever its length. */
@@ -66,13 +66,13 @@ uint32_t nick_write(uint8_t *state, size_t state_bytes, uint32_t port, uint8_t v
  * loaded, bit 4 no scanlines are left, bit 5 video mode 6. Byte 1: slots of 57 at sync level. Byte 2: bytes fetched from video
  * RAM. Byte 3: active slots in modes that fetch.
  *
- * Answers 0, or refusal 3, 4, 6, 7, 8 or 11. */
+ * Answers 0, or refusal 3, 4, 6, 7 or 8. */
 uint32_t nick_paint_line(uint8_t *state, size_t state_bytes, const uint8_t *ram, size_t ram_bytes, uint8_t *dots,
                          size_t dot_bytes, uint8_t *records, size_t record_bytes, const uint8_t *external,
                          size_t external_bytes);
 
 /* Paints the next `height` scanlines, as that many single ones in order. Line y has the 736 dots from dot 736 times y on, and
- * the 4 record bytes from byte 4 times y on. Answers 0, or refusal 3 to 8 or 11. */
+ * the 4 record bytes from byte 4 times y on. Answers 0, or refusal 3 to 8. */
 uint32_t nick_paint(uint8_t *state, size_t state_bytes, const uint8_t *ram, size_t ram_bytes, size_t height, uint8_t *dots,
                     size_t dot_bytes, uint8_t *records, size_t record_bytes, const uint8_t *external,
                     size_t external_bytes);
@@ -80,7 +80,7 @@ uint32_t nick_paint(uint8_t *state, size_t state_bytes, const uint8_t *ram, size
 /* The direct answer: what dot `dot` of the scanline that is `line` scanlines from here would be, with `external` as its
  * external byte (0 if nothing is connected), and the addresses in video RAM that it came from.
  *
- *   bits  0 to  7  the refusal: 0, 3, 4, 9 or 11; if it is not 0, all other bits are 0
+ *   bits  0 to  7  the refusal: 0, 3, 4 or 9; if it is not 0, all other bits are 0
  *   bits  8 to 15  the colour
  *   bits 16 to 23  how many addresses there are: 0, 1 or 2
  *   bits 24 to 39  the first address, or 0

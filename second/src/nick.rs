@@ -7,7 +7,7 @@ pub const RAM_BYTES: usize = 65_536;
 pub const DOTS_PER_LINE: usize = 736;
 pub const BYTES_PER_RECORD: usize = 4;
 pub const MAX_HEIGHT: u32 = 1024;
-pub const BLOCKS: u16 = 4096;
+const BLOCKS: u16 = 4096;
 
 /// The stamp that a refused painting leaves on its records.
 pub const REFUSED_RECORD: u8 = 255;
@@ -41,8 +41,7 @@ type Ram = [u8; RAM_BYTES];
 pub struct Block(pub [u8; 16]);
 
 impl Block {
-    /// A block number is at most 4,095, so its last byte is at most at 65,535:
-    /// refusal 11 is never given.
+    /// A block number is at most 4,095, so its last byte is at most at 65,535.
     fn read(ram: &Ram, number: u16) -> Block {
         let start = 16 * usize::from(number);
         let mut bytes = [0; 16];

@@ -154,7 +154,7 @@ fn p10_table_at_the_end() {
     ram[65_520] = 255;
     let mut state = State { lpl: 255, lph: 255, ..State::fresh() };
     paint(&mut state, &ram, 1);
-    assert_eq!(state.number, 4095);
+    assert_eq!(16 * u32::from(state.number), 65_520);
     paint(&mut state, &ram, 1);
     assert_eq!(state.number, 0);
 }
@@ -364,14 +364,21 @@ fn refusals_4_and_10_of_the_listing() {
     assert!(list_table(&broken, &ram, &mut vec![0; LISTING_BUFFER]).is_ok());
 }
 
+/// Every base, and from every well-formed block number every way to the next block: it ends inside RAM.
 #[test]
-fn refusal_11_cannot_be_given() {
-    for number in 0..usize::from(BLOCKS) {
-        assert!(16 * number + 15 <= 65_535);
+fn no_block_runs_past_ram() {
+    let ends_inside = |number: u16| 16 * usize::from(number) + 15 < RAM_BYTES;
+    for (lpl, lph) in (0..=255).flat_map(|lpl| (0..=255).map(move |lph| (lpl, lph))) {
+        assert!(ends_inside(State { lpl, lph, ..State::fresh() }.base()));
     }
-    for lph in 0..=255 {
-        for lpl in 0..=255 {
-            assert!(State { lpl, lph, ..State::fresh() }.base() < BLOCKS);
+    let ram = vec![0; RAM_BYTES];
+    for number in 0..4096 {
+        for way in 0..8 {
+            let (pending, reload, next) = (way & 1 != 0, way >> 1 & 1, way & 4);
+            let block = Block(block(0, reload, 0, 0, 0, 0, SAME));
+            let mut state = State { lpl: 255, lph: 143 + 16 * next, pending, block, number, left: 0, ..State::fresh() };
+            paint(&mut state, &ram, 1);
+            assert!(ends_inside(state.number));
         }
     }
 }

@@ -70,7 +70,7 @@ pub fn is_loading(scan: Scan) -> bool
 }
 
 // The number of the block that a load takes.
-pub fn loaded_number(registers: Registers, scan: Scan) -> u16
+fn loaded_number(registers: Registers, scan: Scan) -> u16
     requires { ⌜ scan .number < 4096 ⌝ }
     ensures { λ r. ⌜ (r ≡ loadedNumber registers scan) × (r < 4096) ⌝ }
 {

@@ -1,9 +1,9 @@
--- Demand 3: by induction over the calls before, the painting of line y starts from the state after the lines painted so far,
--- and no block on the way runs past the end; the rest is that painting's own line.
+-- Demand 3: by induction over the calls before, the painting of line y starts from the state after the lines painted so far;
+-- the rest is that painting's own line.
 use mathlib.Core.Path.{_≡_, refl, sym, ap, _∙_}
 use mathlib.Core.Bool.{Bool, true, false}
 use mathlib.Core.List.{List, [], _∷_, _++_}
-use Prim.Native.Nat.{ℕ, suc, _+_, _-_, _*_, _≤_, _<_}
+use Prim.Native.Nat.{ℕ, _+_, _-_, _*_, _≤_, _<_}
 use native.Mathlib.Nat.{not-suc-le-zero}
 use native.Mathlib.Decide.{decLt}
 use native.Mathlib.Omega.{arith}
@@ -14,7 +14,7 @@ use Rattle.lists.specs.Choice.{pick}
 use Rattle.nick.specs.Numbers.{byteAt}
 use Rattle.nick.specs.Scanline.{scanAfter}
 use Rattle.nick.specs.Record.{stateAfter}
-use Rattle.nick.specs.Refusals.{illFormed, pastEnd, directRefusal}
+use Rattle.nick.specs.Refusals.{illFormed, directRefusal}
 use Rattle.nick.specs.Painting.{Painting, externalAt, frameDots}
 use Rattle.nick.specs.Direct.{direct, directColour, directNames, colour}
 use Rattle.nick.specs.declared.State.{State}
@@ -22,18 +22,16 @@ use Rattle.claims.specs.Demand3.{Call, oneLine, lines, heightOf, externa
 use Rattle.claims.proofs.Scanlines.{scan-add, state-add, registers-kept, scan-of-state}
 use Rattle.claims.proofs.Slots.{own-external}
 use Rattle.claims.proofs.Frames.{frame-dot}
-use Rattle.claims.proofs.Refusals.{past-end-add, inside-sooner}
 use Rattle.claims.proofs.Paintings.{Leaves, paint-leaves}
 
 call-leaves : (s : State) (ram : List ℕ) (c : Call) → Leaves s ram (heightOf c) (externalOf c) (paintingOf s ram c)
 call-leaves s ram (oneLine dots records external) = paint-leaves s ram 1 dots records external
 call-leaves s ram (lines height dots records external) = paint-leaves s ram height dots records external
 
--- m is made from the state after b lines, and no block of these runs past the end; if m is accepted, the first state was
--- well-formed, since from any other every call is refused
+-- m is made from the state after b lines; if m is accepted, the first state was well-formed, since from any other every call is
+-- refused
 record MadeAfter (s : State) (ram : List ℕ) (b : ℕ) (m : Made) : Type 0 where
   made : m .painting ≡ paintingOf (stateAfter ram b s) ram (m .call)
-  inside : pastEnd (s .registers) ram b (s .scan) ≡ false
   formed : m .painting .refusal ≡ 0 → illFormed (s .scan) ≡ false
 
 -- the state before a call was well-formed, if the one that it returned is
@@ -52,15 +50,11 @@ formed-before s ram h external p l e = go (eqb (p .refusal) 0) refl (l .state)
 later :
     (s t : State) (ram : List ℕ) (k b : ℕ) (m : Made)
     → t ≡ stateAfter ram k s
-    → pastEnd (s .registers) ram k (s .scan) ≡ false
     → (illFormed (t .scan) ≡ false → illFormed (s .scan) ≡ false)
     → MadeAfter t ram b m
     → MadeAfter s ram (k + b) m
-later s t ram k b m e h f r = record {
+later s t ram k b m e f r = record {
   made = rw (state-add ram k b s, ← e) (r .made);
-  inside =
-      rw (past-end-add (s .registers) ram k b (s .scan), h)
-      (rw (e, registers-kept ram k s, scan-of-state ram k s) at (r .inside));
   formed = λ q. f (r .formed q);
 }
 
@@ -72,14 +66,14 @@ made-after s ram [] [] m after e = absurd (omega (arith, ap length e))
 made-after s ram [] (d ∷ before) m after e = absurd (omega (arith, ap length e))
 made-after s ram (c ∷ calls) [] m after e =
     let first : record { call = c; painting = paintingOf s ram c } ≡ m = cc in
-    rw (← first) (record { made = refl; inside = refl; formed = call-leaves s ram c .formed })
+    rw (← first) (record { made = refl; formed = call-leaves s ram c .formed })
 made-after s ram (c ∷ calls) (d ∷ before) m after e =
     let p = paintingOf s ram c in
     let first : record { call = c; painting = p } ≡ d = cc in
     let rest : run (p .state) ram calls ≡ before ++ (m ∷ after) = cc in
     let l = call-leaves s ram c in
     rw (← first)
-    (later s (p .state) ram (linesOf (record { call = c; painting = p })) (linesIn before) m (l .state) (l .inside)
+    (later s (p .state) ram (linesOf (record { call = c; painting = p })) (linesIn before) m (l .state)
     (formed-before s ram (heightOf c) (externalOf c) p l)
     (made-after (p .state) ram calls before m after rest))
 
@@ -94,17 +88,6 @@ frame-direct s ram external b h i x l k =
     ∙ rw (registers-kept ram b s, scan-of-state ram b s, ← scan-add (s .registers) ram b i (s .scan))
     (own-external (s .registers) ram (scanAfter (s .registers) ram (b + i) (s .scan)) (externalAt external i) x k)
 
--- refusal 11 is not given over the lines before a painting that is accepted, and its own
-inside-all :
-    (s : State) (ram : List ℕ) (b h : ℕ) (external : List ℕ) (p : Painting)
-    → p .refusal ≡ 0
-    → pastEnd (s .registers) ram b (s .scan) ≡ false
-    → Leaves (stateAfter ram b s) ram h external p
-    → pastEnd (s .registers) ram (b + h) (s .scan) ≡ false
-inside-all s ram b h external p e before l =
-    rw (past-end-add (s .registers) ram b h (s .scan), before)
-    (rw (e, registers-kept ram b s, scan-of-state ram b s) at (l .inside))
-
 -- the direct answer where nothing is refused
 answers :
     (s : State) (ram : List ℕ) (y x e : ℕ)
@@ -112,11 +95,10 @@ answers :
     → length ram ≡ 65536
     → y ≤ 1023
     → x ≤ 735
-    → pastEnd (s .registers) ram (suc y) (s .scan) ≡ false
     → direct s ram y x e ≡ colour (directColour s ram y x e) (directNames s ram y x)
 unfolding direct directRefusal
-answers s ram y x e formed full hy hx inside =
-    rw (formed, eq-eqb (length ram) 65536 full, le-ltb 1023 y hy, le-ltb 735 x hx, inside)
+answers s ram y x e formed full hy hx =
+    rw (formed, eq-eqb (length ram) 65536 full, le-ltb 1023 y hy, le-ltb 735 x hx)
 
 pub demand3 : Demand3
 demand3 s ram calls before m after y x hy hx e p =
@@ -127,14 +109,12 @@ demand3 s ram calls before m after y x hy hx e p =
     let place = placeOf b y x in
     let r = made-after s ram calls before m after e in
     let l : Leaves t ram h external (m .painting) = rw (r .made) (call-leaves t ram (m .call)) in
-    let inside = inside-all s ram b h external (m .painting) (p .accepted) (r .inside) l in
     let line : b + (y - b) ≡ y = omega (arith, p .first) in
     let dot : byteAt (m .painting .dots) place ≡ directColour s ram y x (byteAt external place) =
     rw (l .dots (p .accepted))
     (frame-direct s ram external b h (y - b) x (omega (arith, p .last, p .first)) (omega arith)
     ∙ ap (λ (n : ℕ). directColour s ram n x (byteAt external place)) line) in
     answers s ram y x (byteAt external place) (r .formed (p .accepted)) (l .full (p .accepted)) hy hx
-    (inside-sooner (s .registers) ram (suc y) (b + h) (s .scan) (p .last) inside)
     ∙ ap (λ (k : ℕ). colour k (directNames s ram y x)) (sym dot)
 
 -- a painting that adds a line is accepted

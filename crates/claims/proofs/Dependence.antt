@@ -17,7 +17,7 @@ use Rattle.nick.specs.Slots.{Mode, VSYNC, PIXEL, ATTR, CH, UNUSED, LPIXEL, mode
 use Rattle.nick.specs.Colour.{Colours, Dot, dotIn, coloursOf}
 use Rattle.nick.specs.External.{dotColour}
 use Rattle.nick.specs.Scanline.{activeAt, pointersAfter, lineDots, ended, nextScan, scanAfter}
-use Rattle.nick.specs.Refusals.{pastEnd, directRefusal}
+use Rattle.nick.specs.Refusals.{directRefusal}
 use Rattle.nick.specs.Direct.{namedIn, directColour, directNames, direct, loadOf, loadedOnTheWay, blockBytesUsed, dependsOn}
 use Rattle.nick.proofs.WellFormed.{block-sc}
 use Rattle.nick.specs.declared.Registers.{Registers}
@@ -203,14 +203,6 @@ module _ (ram other : List ℕ) where
           (begun-alike (here n) (there n) (scans-alike n (sc-and-mb-before n load e))
           (same-rest (scAndMb (way n)) (scAndMb load) (rw (sc-and-mb-append (way n) load) at e)))
 
-      -- refusal 11 is given in both RAMs or in neither
-      same-past-end : (n : ℕ) → Same (scAndMb (way n)) → pastEnd g other n c ≡ pastEnd g ram n c
-      same-past-end zero e = refl
-      same-past-end (suc n) e =
-          let first = sc-and-mb-before n (loadOf g (here n)) e in
-          let a = scans-alike n first in
-          rw (same-past-end n first, alike-loads (here n) (there n) a, alike-number g (here n) (there n) a)
-
       -- the scanline after n begins alike: it loads the last block, or goes on with the same scan
       begun-step :
           length other ≡ length ram
@@ -305,12 +297,9 @@ module _ (ram other : List ℕ) where
             ∙ sym (List·getD-eq-default (lineDots g ram c (λ _. e)) 0 (rw (length-line g ram c (λ _. e)) (omega arith)))
 
 module _ (s : State) (ram other : List ℕ) (y x : ℕ) where
-  same-refusal :
-      length other ≡ length ram
-      → pastEnd (s .registers) other (suc y) (s .scan) ≡ pastEnd (s .registers) ram (suc y) (s .scan)
-      → directRefusal s other y x ≡ directRefusal s ram y x
+  same-refusal : length other ≡ length ram → directRefusal s other y x ≡ directRefusal s ram y x
   unfolding directRefusal
-  same-refusal long past = rw (long, past)
+  same-refusal long = rw long
 
   same-answer :
       (e : ℕ)
@@ -332,7 +321,6 @@ dependence s ram other y x e long same =
     let named = same-rest ram other (blockBytesUsed loads) (namedIn ram (begun g ram c) x) same in
     let alike = begun-step ram other g (s .scan) long y (scan-same ram other g (s .scan) long y) used in
     same-answer s ram other y x e
-    (same-refusal s ram other y x long
-    (same-past-end ram other g (s .scan) (suc y) (same-sc-and-mb ram other loads used)))
+    (same-refusal s ram other y x long)
     (same-colour ram other g c d alike x named e)
     (same-names ram other g c d alike x named)

@@ -1,27 +1,74 @@
--- Refusal 11 is never given to registers that are bytes and a well-formed state: a block's number stays below 4,096.
-use mathlib.Core.Path.{_≡_, refl}
-use mathlib.Core.Bool.{false}
-use mathlib.Core.List.{List}
+-- No block runs past the end of RAM: by induction over the scanlines the scan stays well-formed, so the number of a block that is
+-- loaded is at most 4,095, and the last byte of that block is at 65,535.
+use mathlib.Core.Path.{_≡_, refl, sym}
+use mathlib.Core.Bool.{Bool, true, false, _||_, or-assoc}
+use mathlib.Core.List.{List, [], _∷_, _++_, map}
 use Prim.Native.Nat.{ℕ, zero, suc, _+_, _*_, _<_}
 use native.Mathlib.Omega.{arith}
+use lib.ListN.{replicate}
 use borrow.Author.Tests.{le-ltb}
-use Rattle.lists.proofs.Tests.{and-false}
-use Rattle.nick.specs.Blocks.{loads, loadedNumber}
-use Rattle.nick.specs.Scanline.{scanAfter}
-use Rattle.nick.specs.Refusals.{illFormed, loadPastEnd, pastEnd}
+use Rattle.lists.specs.Choice.{pick}
+use Rattle.nick.specs.Registers.{zeroPointers, zeroBlock, writtenRegisters, writtenScan, written, freshState}
+use Rattle.nick.specs.Blocks.{loads, loadedNumber, decoded, blockAt, loaded, continued, begun}
+use Rattle.nick.specs.Slots.{modeNumbered}
+use Rattle.nick.specs.Scanline.{ended, nextScan, scanAfter}
+use Rattle.nick.specs.Refusals.{illFormed}
+use Rattle.nick.specs.Direct.{loadOf, loadedOnTheWay}
 use Rattle.nick.specs.declared.Registers.{Registers}
 use Rattle.nick.specs.declared.Scan.{Scan}
+use Rattle.nick.specs.declared.State.{State}
+use Rattle.claims.specs.InsideRam.{runsPastEnd, anyPastEnd, pastEnd, NeverPastEnd}
 use Rattle.claims.proofs.WellFormed.{Formed, formed, number-most, formed-after}
 
-load-inside : (g : Registers) (c : Scan) → g .lpl < 256 → Formed c → loadPastEnd g c ≡ false
-load-inside g c h f =
-    rw (le-ltb 65536 (16 * loadedNumber g c + 16) (omega (arith, number-most g c h (f .number)))) (and-false (loads c))
+any-append : (l r : List ℕ) → anyPastEnd (l ++ r) ≡ anyPastEnd l || anyPastEnd r
+any-append [] r = refl
+any-append (n ∷ l) r = rw (any-append l r) (sym (or-assoc (runsPastEnd n) (anyPastEnd l) (anyPastEnd r)))
 
-inside : (g : Registers) (ram : List ℕ) (n : ℕ) (c : Scan) → g .lpl < 256 → Formed c → pastEnd g ram n c ≡ false
+-- the block that the next scanline loads, if it loads one
+load-inside : (g : Registers) (c : Scan) → g .lpl < 256 → Formed c → anyPastEnd (loadOf g c) ≡ false
+load-inside g c h f = go (loads c)
+  where
+    go : (t : Bool) → anyPastEnd (pick t (loadedNumber g c ∷ []) []) ≡ false
+    go true = rw (le-ltb 65535 (16 * loadedNumber g c + 15) (omega (arith, number-most g c h (f .number))))
+    go false = refl
+
+inside : (g : Registers) (ram : List ℕ) (n : ℕ) (c : Scan) → g .lpl < 256 → Formed c → anyPastEnd (loadedOnTheWay g ram n c) ≡ false
 inside g ram zero c h f = refl
 inside g ram (suc n) c h f =
-    rw (inside g ram n c h f) (load-inside g (scanAfter g ram n c) h (formed-after g ram n c h f))
+    rw (any-append (loadedOnTheWay g ram n c) (loadOf g (scanAfter g ram n c)), inside g ram n c h f)
+    (load-inside g (scanAfter g ram n c) h (formed-after g ram n c h f))
 
-pub never-past-end :
-    (g : Registers) (ram : List ℕ) (n : ℕ) (c : Scan) → g .lpl < 256 → illFormed c ≡ false → pastEnd g ram n c ≡ false
-never-past-end g ram n c h e = inside g ram n c h (formed c e)
+pub never-past-end : NeverPastEnd
+never-past-end s ram n h e = inside (s .registers) ram n (s .scan) h (formed (s .scan) e)
+
+-- The case that comes nearest, P10's: LPL 255 and LPH 255 written to the fresh state.
+abbrev lastBase : State
+lastBase = written (written freshState 130 255) 131 255
+
+-- the block at 65,520 has one scanline and no RELOAD
+abbrev lastBlock : List ℕ
+lastBlock = replicate 65520 0 ++ (255 ∷ replicate 15 0)
+
+-- a well-formed state; the block at 65,520 is loaded, whose last byte is at 65,535, and then the one at 0
+pub nearest :
+    (illFormed (lastBase .scan) ≡ false)
+    × (map (λ n. 16 * n) (loadedOnTheWay (lastBase .registers) lastBlock 2 (lastBase .scan)) ≡ 65520 ∷ 0 ∷ [])
+    × (pastEnd lastBase lastBlock 2 ≡ false)
+unfolding
+    writtenRegisters writtenScan written loadedNumber decoded blockAt loaded continued begun modeNumbered ended nextScan
+nearest = (refl, refl, refl)
+
+-- Both conditions are needed; RAM is empty, since the first block's number does not come from it. A state whose next scanline
+-- loads a block, by LPL, LPH, pending and its block number.
+abbrev loading : ℕ → ℕ → Bool → ℕ → State
+loading low high due n = record {
+  registers = record { fixbias = 0; border = 0; lpl = low; lph = high };
+  scan = record { pending = due; block = zeroBlock; number = n; at = zeroPointers; left = 0 };
+  virq = false;
+  sync = false;
+}
+
+-- from block number 4,096, which refusal 3 meets, with LPH bit 6 clear, that block; with LPL 256 the base, which is that block too
+pub beyond : (pastEnd (loading 0 128 false 4096) [] 1 ≡ true) × (pastEnd (loading 256 143 true 0) [] 1 ≡ true)
+unfolding loadedNumber
+beyond = (refl, refl)

@@ -9,16 +9,15 @@ use lib.ListN.{length}
 use borrow.Author.Tests.{eqb-true, ne-eqb}
 use Rattle.lists.specs.Choice.{pick}
 use Rattle.nick.specs.Record.{stateAfter}
-use Rattle.nick.specs.Refusals.{illFormed, pastEnd, paintingRefusal}
+use Rattle.nick.specs.Refusals.{illFormed, paintingRefusal}
 use Rattle.nick.specs.Painting.{Painting, frameDots, painted, refusedPainting, paint}
 use Rattle.nick.specs.declared.State.{State}
-use Rattle.claims.proofs.Refusals.{accepted-formed, accepted-full, accepted-inside}
+use Rattle.claims.proofs.Refusals.{accepted-formed, accepted-full}
 
--- what p, a painting of h lines from s, leaves: the state after the lines that it paints, none where it is refused; no block
--- of these runs past the end; where it is accepted, their dots, the state being well-formed and RAM whole
+-- what p, a painting of h lines from s, leaves: the state after the lines that it paints, none where it is refused; where it is
+-- accepted, their dots, the state being well-formed and RAM whole
 pub record Leaves (s : State) (ram : List ℕ) (h : ℕ) (external : List ℕ) (p : Painting) : Type 0 where
   pub state : p .state ≡ stateAfter ram (pick (eqb (p .refusal) 0) h 0) s
-  pub inside : pastEnd (s .registers) ram (pick (eqb (p .refusal) 0) h 0) (s .scan) ≡ false
   pub dots : p .refusal ≡ 0 → p .dots ≡ frameDots ram external h s
   pub formed : p .refusal ≡ 0 → illFormed (s .scan) ≡ false
   pub full : p .refusal ≡ 0 → length ram ≡ 65536
@@ -51,7 +50,6 @@ module _ (s : State) (ram : List ℕ) (h : ℕ) (dots records external : List �
   unfolding painted
   accepted-leaves e = record {
     state = refl;
-    inside = accepted-inside s ram h dots records external e;
     dots = λ _. refl;
     formed = λ _. accepted-formed s ram h dots records external e;
     full = λ _. accepted-full s ram h dots records external e;
@@ -61,7 +59,6 @@ module _ (s : State) (ram : List ℕ) (h : ℕ) (dots records external : List �
   unfolding refusedPainting
   refused-leaves n e = record {
     state = rw (ne-eqb n 0 e);
-    inside = rw (ne-eqb n 0 e);
     dots = λ q. absurd (e q);
     formed = λ q. absurd (e q);
     full = λ q. absurd (e q);

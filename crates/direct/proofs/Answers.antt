@@ -2,7 +2,7 @@
 use mathlib.Core.Path.{_≡_, refl, sym}
 use mathlib.Core.Bool.{Bool, true, false}
 use mathlib.Core.List.{List, [], map}
-use Prim.Native.Nat.{ℕ, suc, _/_, _%_, _≤_, _<_}
+use Prim.Native.Nat.{ℕ, _/_, _%_, _≤_, _<_}
 use native.Mathlib.Omega.{arith}
 use lib.Dec.{lit<}
 use lib.ListN.{length}
@@ -14,7 +14,7 @@ use Rattle.nick.specs.Slots.{modeOf, modeNumber, dotAddresses}
 use Rattle.nick.specs.Colour.{coloursOf}
 use Rattle.nick.specs.External.{dotColour}
 use Rattle.nick.specs.Scanline.{activeAt, pointersAfter, dotAt, scanAfter}
-use Rattle.nick.specs.Refusals.{loadPastEnd, pastEnd, directRefusal}
+use Rattle.nick.specs.Refusals.{directRefusal}
 use Rattle.nick.specs.Direct.{colour, refused, directColour, directNames, direct}
 use Rattle.nick.specs.declared.Registers.{Registers}
 use Rattle.nick.specs.declared.Pointers.{Pointers}
@@ -72,19 +72,7 @@ module _ (s : State) (ram : List ℕ) (y x e : ℕ) where
           refused-9-dot a = direct-refused s ram y x e 9 (rw (le-ltb 256 (s .scan .left) l, le-ltb 4095 (s .scan .number) n, eq-eqb (length ram) 65536 m, le-ltb 1023 y o, lt-ltb 735 x a)) (lit< tt)
 
           module _ (p : x ≤ 735) where
-            pub refused-11 : pastEnd (s .registers) ram (suc y) (s .scan) ≡ true → refused 11 ≡ direct s ram y x e
+            pub not-refused : (d : Scan) → d ≡ begun (s .registers) ram (scanAfter (s .registers) ram y (s .scan)) → dotAnswer (s .registers) ram d x e ≡ direct s ram y x e
             unfolding directRefusal
-            refused-11 a = direct-refused s ram y x e 11 (rw (le-ltb 256 (s .scan .left) l, le-ltb 4095 (s .scan .number) n, eq-eqb (length ram) 65536 m, le-ltb 1023 y o, le-ltb 735 x p, a)) (lit< tt)
-
-            pub not-refused : pastEnd (s .registers) ram (suc y) (s .scan) ≡ false → (d : Scan) → d ≡ begun (s .registers) ram (scanAfter (s .registers) ram y (s .scan)) → dotAnswer (s .registers) ram d x e ≡ direct s ram y x e
-            unfolding directRefusal
-            not-refused a d h =
-                rw h (direct-answered s ram y x e (rw (le-ltb 256 (s .scan .left) l, le-ltb 4095 (s .scan .number) n, eq-eqb (length ram) 65536 m, le-ltb 1023 y o, le-ltb 735 x p, a)) (omega arith))
-
--- whether a block is loaded past the end of RAM up to scanline y, in the scanlines before it or in it
-module _ (g : Registers) (ram : List ℕ) (c : Scan) (y : ℕ) where
-  pub past-before : pastEnd g ram y c ≡ true → pastEnd g ram (suc y) c ≡ true
-  past-before h = rw h
-
-  pub past-there : (d : Scan) → pastEnd g ram y c ≡ false → d ≡ scanAfter g ram y c → pastEnd g ram (suc y) c ≡ loadPastEnd g d
-  past-there d h e = rw (h, e)
+            not-refused d h =
+                rw h (direct-answered s ram y x e (rw (le-ltb 256 (s .scan .left) l, le-ltb 4095 (s .scan .number) n, eq-eqb (length ram) 65536 m, le-ltb 1023 y o, le-ltb 735 x p)) (omega arith))

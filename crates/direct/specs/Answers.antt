@@ -1,18 +1,15 @@
 -- What the functions behind the direct answer say of one dot of a slot. Nothing here is a rule of the chip: proofs/Slots.antt
 -- ties it to the rules.
-use Prim.Native.Nat.{ℕ, suc, _/_, _%_}
-use mathlib.Core.Path.{_≡_}
-use mathlib.Core.Bool.{true, false}
+use Prim.Native.Nat.{ℕ, _/_, _%_}
+use mathlib.Core.Bool.{true}
 use mathlib.Core.List.{List, [], _∷_, map}
 use lib.Dec.{eqb}
 use Rattle.lists.specs.Choice.{pick}
 use Rattle.nick.specs.Numbers.{byteAt}
-use Rattle.nick.specs.Blocks.{begun}
 use Rattle.nick.specs.Slots.{Mode, modeOf, dotAddresses}
 use Rattle.nick.specs.Colour.{dotIn, coloursOf, graphicsPixel, pixelsIn, sharing}
 use Rattle.nick.specs.External.{dotColour, mixedColour}
-use Rattle.nick.specs.Scanline.{activeAt, pointersAfter, scanAfter}
-use Rattle.nick.specs.Refusals.{pastEnd}
+use Rattle.nick.specs.Scanline.{activeAt, pointersAfter}
 use Rattle.nick.specs.Direct.{Answered, colour, addressesOf}
 use Rattle.nick.specs.declared.Registers.{Registers}
 use Rattle.nick.specs.declared.Pointers.{Pointers}
@@ -21,7 +18,6 @@ use Rattle.nick.specs.declared.Scan.{Scan}
 use Rattle.nick.specs.declared.Sources.{Sources}
 use Rattle.colour.specs.Cell.{cellPixel}
 use Rattle.colour.specs.declared.Cell.{Cell}
-use Rattle.walk.specs.declared.Walked.{Walked}
 
 -- a dot for which nothing is fetched: 0 in VSYNC, else BORDER
 abbrev pub unfetchedAnswer : Registers → ℕ → Answered
@@ -51,8 +47,3 @@ dotAnswer g ram c x e =
     pick (activeAt (c .block) (x / 16))
     (activeAnswer (modeOf (c .block)) g ram (c .block) (pointersAfter (c .block) (x / 16) (c .at)) (x % 16) e)
     (unfetchedAnswer g (c .block .mb / 2 % 8))
-
--- the scan as scanline y from c begins
-pub record Begins (g : Registers) (ram : List ℕ) (c : Scan) (y : ℕ) (r : Walked) : Type 0 where
-  pub past : r .past ≡ pastEnd g ram (suc y) c
-  pub scan : r .past ≡ false → r .scan ≡ begun g ram (scanAfter g ram y c)

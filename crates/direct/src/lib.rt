@@ -2,7 +2,9 @@
 ghost use mathlib.Core.Path.{_≡_};
 ghost use Prim.Native.Nat.{_<_, _≤_};
 ghost use lib.ListN.{length};
+ghost use Rattle.nick.specs.Blocks.{begun};
 ghost use Rattle.nick.specs.Slots.{ATTR, CH, modeOf};
+ghost use Rattle.nick.specs.Scanline.{scanAfter};
 ghost use Rattle.nick.specs.Direct.{answered, direct};
 ghost use Rattle.walk.specs.Walks.{Formed};
 ghost use Rattle.direct.specs.Answers.{
@@ -11,7 +13,6 @@ ghost use Rattle.direct.specs.Answers.{
   graphicsAnswer,
   activeAnswer,
   dotAnswer,
-  Begins,
 };
 use colour::Cell;
 use nick::Answer;
@@ -21,7 +22,6 @@ use nick::Registers;
 use nick::Scan;
 use nick::Sources;
 use nick::State;
-use walk::Walked;
 
 // A dot for which nothing is fetched: 0 in VSYNC, else BORDER.
 fn unfetched(registers: Registers, mode: u8) -> Answer
@@ -149,24 +149,13 @@ fn begun_dot(registers: Registers, ram: &[u8], scan: Scan, dot: usize, external:
     }
 }
 
-// The scan as scanline `line` from here begins; `past` where a block loaded up to it would run past the end of RAM.
-fn begin_line(registers: Registers, ram: &[u8], scan: Scan, line: usize) -> Walked
+// The scan as scanline `line` from here begins.
+fn begin_line(registers: Registers, ram: &[u8], scan: Scan, line: usize) -> Scan
     requires { ⌜ (length (now ram) ≡ 65536) × Formed scan ⌝ }
-    ensures { λ r. ⌜ Begins registers (now (ram .entry)) scan line r ⌝ }
+    ensures { λ r. ⌜ r ≡ begun registers (now (ram .entry)) (scanAfter registers (now (ram .entry)) line scan) ⌝ }
 {
-    let walked = walk::walk(registers, ram, scan, line);
-    if walked.past {
-        return walked;
-    }
-    let reached = walked.scan;
-    if walk::loads_past_end(registers, reached) {
-        return Walked { past: true, scan };
-    }
-    let begun = blocks::begin(registers, ram, reached);
-    Walked {
-        past: false,
-        scan: begun,
-    }
+    let reached = walk::walk(registers, ram, scan, line);
+    blocks::begin(registers, ram, reached)
 }
 
 // The direct answer for a dot of scanline `line` from here, `external` being its external byte, 0 if nothing is connected.
@@ -191,9 +180,5 @@ pub fn dot(state: State, ram: &[u8], line: usize, dot: usize, external: u8) -> A
     }
     let registers = state.registers;
     let begun = begin_line(registers, ram, scan, line);
-    if begun.past {
-        return Answer::Refused(11);
-    }
-    let begun = begun.scan;
     begun_dot(registers, ram, begun, dot, external)
 }

@@ -20,10 +20,7 @@ fn print_words(refusal: u8) {
         ),
         9 => io::write_all(STDOUT_FILENO, b"line over 1,023 or dot over 735"),
         10 => io::write_all(STDOUT_FILENO, b"output shorter than the whole listing"),
-        _ => io::write_all(
-            STDOUT_FILENO,
-            b"a block to be loaded would run past address 65,535",
-        ),
+        _ => io::write_all(STDOUT_FILENO, b"no call gives this number"),
     }
     ;
 }

@@ -19,7 +19,6 @@ use Rattle.nick.specs.declared.Scan.{Scan}
 use Rattle.nick.specs.declared.State.{State}
 use Rattle.nick.specs.declared.Painted.{Painted}
 use Rattle.claims.proofs.Slots.{slotColour, length-line, line-dot}
-use Rattle.claims.proofs.InsideRam.{never-past-end}
 use Rattle.claims.proofs.Paintings.{refusal-is, accepted-is}
 use Rattle.painting.specs.Frames.{Paints}
 
@@ -89,15 +88,15 @@ part-fits external y from to p q fits = go (eqb (length external) 0) refl fits
         let whole : length part ≡ 736 = omega (arith, size, long, p, q) in
         rw whole refl
 
--- a line is never refused: its state is well-formed, its buffers fit, and no block runs past the end of RAM
+-- a line is never refused: its state is well-formed, and its buffers fit
 pub line-accepted : (s : State) (ram dots records external : List ℕ)
-    → s .registers .lpl < 256 → s .scan .number < 4096 → s .scan .left ≤ 256
+    → s .scan .number < 4096 → s .scan .left ≤ 256
     → length ram ≡ 65536 → length dots ≡ 736 → length records ≡ recordBytes → badExternal 1 external ≡ false
     → paintingRefusal s ram 1 dots records external ≡ 0
 unfolding paintingRefusal
-line-accepted s ram dots records external l n h full d r e =
+line-accepted s ram dots records external n h full d r e =
     let formed : illFormed (s .scan) ≡ false = rw (le-ltb 256 (s .scan .left) h, le-ltb 4095 (s .scan .number) (omega arith)) in
-    rw (formed, full, d, r, e, never-past-end (s .registers) ram 1 (s .scan) l formed)
+    rw (formed, full, d, r, e)
 
 -- a line that is not refused
 module _ (s : State) (ram dots records external ds rs : List ℕ) (r : Painted) (paints : Paints s ram 1 dots records external ds rs r)

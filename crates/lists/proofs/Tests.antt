@@ -11,17 +11,9 @@ pub and-false : (t : Bool) → t && false ≡ false
 and-false true = refl
 and-false false = refl
 
-pub or-false : (t : Bool) → t || false ≡ t
-or-false true = refl
-or-false false = refl
-
 pub or-true : (t : Bool) → t || true ≡ true
 or-true true = refl
 or-true false = refl
-
-pub or-assoc : (a b c : Bool) → (a || b) || c ≡ a || (b || c)
-or-assoc true b c = refl
-or-assoc false b c = refl
 
 -- neither of two tests holds
 pub or-first : (a b : Bool) → a || b ≡ false → a ≡ false

@@ -1,15 +1,13 @@
 -- Document 01, "Buffers and refusal numbers": the tests of the table. A call tests its numbers in rising order, so that
--- "the smallest number is given"; 0 stands for no refusal.
-use Prim.Native.Nat.{ℕ, zero, suc, _+_, _*_}
-use mathlib.Core.Bool.{Bool, false, not, _&&_, _||_}
+-- "the smallest number is given"; 0 stands for no refusal. Number 11 is given by nothing (document 02, item 9): claims
+-- specs/InsideRam has what it said, and why it cannot be met.
+use Prim.Native.Nat.{ℕ, _*_}
+use mathlib.Core.Bool.{Bool, not, _||_}
 use mathlib.Core.List.{List}
 use lib.Dec.{eqb, ltb}
 use lib.ListN.{length}
 use Rattle.lists.specs.Choice.{pick}
 use Rattle.nick.specs.Sizes.{recordBytes}
-use Rattle.nick.specs.Blocks.{loads, loadedNumber}
-use Rattle.nick.specs.Scanline.{scanAfter}
-use Rattle.nick.specs.declared.Registers.{Registers}
 use Rattle.nick.specs.declared.Scan.{Scan}
 use Rattle.nick.specs.declared.State.{State}
 
@@ -41,16 +39,7 @@ badExternal h external = not (eqb (length external) 0 || eqb (length external) (
 abbrev pub badPlace : ℕ → ℕ → Bool
 badPlace line dot = ltb 1023 line || ltb 735 dot
 
--- the block that the next scanline loads would run past address 65,535
-abbrev pub loadPastEnd : Registers → Scan → Bool
-loadPastEnd g c = loads c && ltb 65536 (16 * loadedNumber g c + 16)
-
--- 11: "a block to be loaded would run past address 65,535", in the next n scanlines
-abbrev pub pastEnd : Registers → List ℕ → ℕ → Scan → Bool
-pastEnd g ram zero c = false
-pastEnd g ram (suc n) c = pastEnd g ram n c || loadPastEnd g (scanAfter g ram n c)
-
--- "3, 4 and 11 for painting and the direct answer; 5 to 8 for painting"
+-- "3, 4 .. for painting and the direct answer; 5 to 8 for painting"
 unfoldable pub paintingRefusal : State → List ℕ → ℕ → List ℕ → List ℕ → List ℕ → ℕ
 paintingRefusal s ram h dots records external =
     pick (illFormed (s .scan)) 3
@@ -58,16 +47,14 @@ paintingRefusal s ram h dots records external =
     (pick (badHeight h) 5
     (pick (badDots h dots) 6
     (pick (badRecords h records) 7
-    (pick (badExternal h external) 8
-    (pick (pastEnd (s .registers) ram h (s .scan)) 11 0))))))
+    (pick (badExternal h external) 8 0)))))
 
--- "3, 4 and 11 for painting and the direct answer; .. 9 for the direct answer"
+-- "3, 4 .. for painting and the direct answer; .. 9 for the direct answer"
 unfoldable pub directRefusal : State → List ℕ → ℕ → ℕ → ℕ
 directRefusal s ram line dot =
     pick (illFormed (s .scan)) 3
     (pick (notFull ram) 4
-    (pick (badPlace line dot) 9
-    (pick (pastEnd (s .registers) ram (suc line) (s .scan)) 11 0)))
+    (pick (badPlace line dot) 9 0))
 
 -- "4 and 10 for the listing"; 10: "output shorter than the whole listing"
 unfoldable pub listingRefusal : List ℕ → List ℕ → List ℕ → ℕ

@@ -8,7 +8,7 @@ use lib.ListN.{length}
 use borrow.Author.Tests.{lt-ltb, le-ltb, eq-eqb, ne-eqb}
 use Rattle.lists.specs.Choice.{pick}
 use Rattle.nick.specs.Sizes.{recordBytes}
-use Rattle.nick.specs.Refusals.{notFull, badHeight, badDots, badRecords, badExternal, pastEnd, paintingRefusal}
+use Rattle.nick.specs.Refusals.{notFull, badHeight, badDots, badRecords, badExternal, paintingRefusal}
 use Rattle.nick.specs.declared.State.{State}
 
 module _ (s : State) (ram : List ℕ) (h : ℕ) (dots records external : List ℕ) where
@@ -16,11 +16,8 @@ module _ (s : State) (ram : List ℕ) (h : ℕ) (dots records external : List �
   table = paintingRefusal s ram h dots records external
 
   -- the table from each test on
-  abbrev fromLoads : ℕ
-  fromLoads = pick (pastEnd (s .registers) ram h (s .scan)) 11 0
-
   abbrev fromExternal : ℕ
-  fromExternal = pick (badExternal h external) 8 fromLoads
+  fromExternal = pick (badExternal h external) 8 0
 
   abbrev fromRecords : ℕ
   fromRecords = pick (badRecords h records) 7 fromExternal
@@ -83,12 +80,5 @@ module _ (s : State) (ram : List ℕ) (h : ℕ) (dots records external : List �
                 pub refused-external : eqb (length external) 0 || eqb (length external) (736 * h) ≡ false → 8 ≡ table
                 refused-external n = rw (past-records, n)
 
-                module _ (fits : eqb (length external) 0 || eqb (length external) (736 * h) ≡ true) where
-                  past-external : table ≡ fromLoads
-                  past-external = rw (past-records, fits)
-
-                  pub refused-load : pastEnd (s .registers) ram h (s .scan) ≡ true → 11 ≡ table
-                  refused-load p = rw (past-external, p)
-
-                  pub not-refused : pastEnd (s .registers) ram h (s .scan) ≡ false → 0 ≡ table
-                  not-refused p = rw (past-external, p)
+                pub not-refused : eqb (length external) 0 || eqb (length external) (736 * h) ≡ true → 0 ≡ table
+                not-refused fits = rw (past-records, fits)

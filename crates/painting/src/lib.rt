@@ -56,9 +56,6 @@ fn refusal(
     if !external_fits(external.len(), height) {
         return 8;
     }
-    if walk::walk(state.registers, ram, state.scan, height).past {
-        return 11;
-    }
     0
 }
 

@@ -1,4 +1,4 @@
-// Prints every refusal as the programs print it, in the order of document 01's table.
+// Prints every refusal as the programs print it, in the order of document 01's table; 11 is given by no call.
 fn main() {
     files::print_refusal(1);
     files::print_refusal(2);

@@ -1,18 +1,17 @@
 -- Laws on several scanlines: those of one mode line in one step.
 use mathlib.Core.Path.{_≡_, refl, ap, _∙_}
 use mathlib.Core.Bool.{Bool, true, false}
-use mathlib.Core.List.{List}
+use mathlib.Core.List.{List, append-nil}
 use Prim.Native.Nat.{ℕ, zero, suc, _-_, _*_, _<_}
 use native.Mathlib.Nat.{add-zero, one-mul, suc-mul, zero-lt-suc}
 use native.Mathlib.Omega.{arith}
 use borrow.Author.Tests.{ne-eqb}
 use Rattle.lists.specs.Choice.{pick}
-use Rattle.lists.proofs.Tests.{or-false}
 use Rattle.nick.specs.Numbers.{up}
 use Rattle.nick.specs.Blocks.{vres, loads, loadedNumber, blockAt, loaded, continued, begun}
 use Rattle.nick.specs.Slots.{modeOf, linePointers}
 use Rattle.nick.specs.Scanline.{ended, nextScan, scanAfter, pointersAfter}
-use Rattle.nick.specs.Refusals.{loadPastEnd, pastEnd}
+use Rattle.nick.specs.Direct.{loadOf, loadedOnTheWay}
 use Rattle.nick.specs.declared.Registers.{Registers}
 use Rattle.nick.specs.declared.Pointers.{Pointers}
 use Rattle.nick.specs.declared.Block.{Block}
@@ -100,11 +99,11 @@ module _ (g : Registers) (ram : List ℕ) (c : Scan) (h : Sixteen (begun g ram c
       let none = loads-none d (suc n) (p (zero-lt-suc n)) l in
       ap (nextScan g ram) (lines-inside n (λ _. p (zero-lt-suc n)) (omega arith)) ∙ next-inside g ram (skipped d (suc n)) none ∙ skip-more d (suc n) h (begun-restarted g ram c)
 
-  -- where none but the first loads, none but the first can load past the end
-  pub past-inside : (n : ℕ) → (0 < n → begun g ram c .pending ≡ false) → n < begun g ram c .left → pastEnd g ram (suc n) c ≡ loadPastEnd g c
-  past-inside zero p l = refl
-  past-inside (suc n) p l =
+  -- the blocks loaded in them are those that the first of them loads
+  pub loaded-inside : (n : ℕ) → (0 < n → begun g ram c .pending ≡ false) → n < begun g ram c .left → loadedOnTheWay g ram (suc n) c ≡ loadOf g c
+  loaded-inside zero p l = refl
+  loaded-inside (suc n) p l =
       let d = begun g ram c in
       let p′ : 0 < n → d .pending ≡ false = λ _. p (zero-lt-suc n) in
       let l′ : n < d .left = omega arith in
-      rw (past-inside n p′ l′, lines-inside n p′ l′, loads-none d (suc n) (p (zero-lt-suc n)) l) (or-false (loadPastEnd g c))
+      rw (loaded-inside n p′ l′, lines-inside n p′ l′, loads-none d (suc n) (p (zero-lt-suc n)) l) (append-nil (loadOf g c))

@@ -2,7 +2,7 @@
 use mathlib.Core.Path.{_≡_, refl, sym, ap, _∙_}
 use mathlib.Core.Bool.{Bool, true, false}
 use mathlib.Core.List.{List}
-use Prim.Native.Nat.{ℕ, zero, suc, _+_, _-_, _≤_, _<_, min}
+use Prim.Native.Nat.{ℕ, zero, suc, _+_, _≤_, _<_, min}
 use native.Mathlib.Nat.{not-suc-le-zero, lt-irrefl}
 use native.Mathlib.Omega.{arith}
 use lib.Dec.{eqb}
@@ -10,16 +10,14 @@ use borrow.Author.Tests.{eqb-false}
 use Rattle.lists.specs.Choice.{pick}
 use Rattle.lists.proofs.Tests.{or-rest}
 use Rattle.nick.specs.Blocks.{loads, loaded, continued, begun}
-use Rattle.nick.specs.Refusals.{loadPastEnd, pastEnd}
 use Rattle.nick.specs.declared.Registers.{Registers}
 use Rattle.nick.specs.declared.Scan.{Scan}
 use Rattle.nick.proofs.WellFormed.{begun-number}
 use Rattle.claims.proofs.Scanlines.{scan-add}
-use Rattle.claims.proofs.Refusals.{past-end-add}
 use Rattle.walk.specs.Steps.{skipped}
 use Rattle.walk.specs.Walks.{Formed, Reached}
 use Rattle.walk.proofs.Rises.{Sixteen}
-use Rattle.walk.proofs.Lines.{begunBy, lines-inside, past-inside}
+use Rattle.walk.proofs.Lines.{begunBy, lines-inside}
 
 begun-left : (g : Registers) (ram : List ℕ) (c : Scan) → c .left ≤ 256 → begun g ram c .block .sc < 256 → (1 ≤ begun g ram c .left) × (begun g ram c .left ≤ 256)
 unfolding begun continued loaded
@@ -52,32 +50,24 @@ together d lines h l = go (d .pending) refl
     go false e = record { some = omega arith; most = omega arith; within = omega arith; pending = λ _. e }
 
 -- and they end at the closed form
-pub reached : (g : Registers) (ram : List ℕ) (c d : Scan) (lines n : ℕ) → d ≡ begun g ram c → Sixteen (d .at) → Formed d → Together d lines n → loadPastEnd g c ≡ false → Reached g ram c n (skipped d n)
+pub reached : (g : Registers) (ram : List ℕ) (c d : Scan) (lines n : ℕ) → d ≡ begun g ram c → Sixteen (d .at) → Formed d → Together d lines n → Reached g ram c n (skipped d n)
 unfolding skipped
-reached g ram c d lines zero e h f t p = absurd (not-suc-le-zero (t .some))
-reached g ram c d lines (suc n) e h f t p =
+reached g ram c d lines zero e h f t = absurd (not-suc-le-zero (t .some))
+reached g ram c d lines (suc n) e h f t =
     let h′ : Sixteen (begun g ram c .at) = rw e at h in
     let q : 0 < n → begun g ram c .pending ≡ false = λ k. rw e at (t .pending (omega arith)) in
     let l : n < begun g ram c .left = rw e at (t .within) in
     record {
       scan = sym (lines-inside g ram c h′ n q l ∙ ap (λ (x : Scan). skipped x (suc n)) (sym e));
-      clear = past-inside g ram c h′ n q l ∙ p;
       formed = record { number = f .number; left = omega (arith, f .left) };
     }
 
 -- a walk of no scanlines, and one of some more
 pub reached-none : (g : Registers) (ram : List ℕ) (c : Scan) → Formed c → Reached g ram c 0 c
-reached-none g ram c f = record { scan = refl; clear = refl; formed = f }
+reached-none g ram c f = record { scan = refl; formed = f }
 
 pub reached-more : (g : Registers) (ram : List ℕ) (c d e : Scan) (m n : ℕ) → Reached g ram c m d → Reached g ram d n e → Reached g ram c (m + n) e
 reached-more g ram c d e m n r s = record {
   scan = rw (scan-add g ram m n c, ← r .scan) (s .scan);
-  clear = rw (past-end-add g ram m n c, ← r .scan, r .clear) (s .clear);
   formed = s .formed;
 }
-
--- a load past the end of RAM at a scanline on the way
-pub past-at : (g : Registers) (ram : List ℕ) (c d : Scan) (m n : ℕ) → Reached g ram c m d → m < n → loadPastEnd g d ≡ true → pastEnd g ram n c ≡ true
-past-at g ram c d m n r l h =
-    let e : m + (1 + (n - suc m)) ≡ n = omega arith in
-    rw (← e, past-end-add g ram m (1 + (n - suc m)) c, r .clear, ← r .scan, past-end-add g ram 1 (n - suc m) d, h)

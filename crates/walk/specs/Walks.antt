@@ -1,13 +1,10 @@
 -- What the walk from block to block answers.
 use Prim.Native.Nat.{ℕ, _≤_, _<_}
 use mathlib.Core.Path.{_≡_}
-use mathlib.Core.Bool.{false}
 use mathlib.Core.List.{List}
 use Rattle.nick.specs.Scanline.{scanAfter}
-use Rattle.nick.specs.Refusals.{loadPastEnd, pastEnd}
 use Rattle.nick.specs.declared.Registers.{Registers}
 use Rattle.nick.specs.declared.Scan.{Scan}
-use Rattle.walk.specs.declared.Walked.{Walked}
 use Rattle.walk.specs.declared.Turned.{Turned}
 
 -- a scan that refusal 3 does not meet
@@ -15,21 +12,13 @@ pub record Formed (c : Scan) : Type 0 where
   pub number : c .number < 4096
   pub left : c .left ≤ 256
 
--- d is the scan after n scanlines from c, and no block that they load runs past the end of RAM
+-- d is the scan after n scanlines from c
 pub record Reached (g : Registers) (ram : List ℕ) (c : Scan) (n : ℕ) (d : Scan) : Type 0 where
   pub scan : d ≡ scanAfter g ram n c
-  pub clear : pastEnd g ram n c ≡ false
   pub formed : Formed d
 
 -- one turn of the walk goes on by at least one and at most n scanlines
 pub record Turns (g : Registers) (ram : List ℕ) (c : Scan) (n : ℕ) (r : Turned) : Type 0 where
-  pub past : r .past ≡ loadPastEnd g c
-  pub reached : r .past ≡ false → Reached g ram c (r .lines) (r .scan)
-  pub some : r .past ≡ false → 1 ≤ r .lines
+  pub reached : Reached g ram c (r .lines) (r .scan)
+  pub some : 1 ≤ r .lines
   pub most : r .lines ≤ n
-
--- the walk over n scanlines from c
-pub record Walks (g : Registers) (ram : List ℕ) (c : Scan) (n : ℕ) (r : Walked) : Type 0 where
-  pub past : r .past ≡ pastEnd g ram n c
-  pub scan : pastEnd g ram n c ≡ false → r .scan ≡ scanAfter g ram n c
-  pub formed : Formed (r .scan)

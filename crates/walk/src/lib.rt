@@ -7,9 +7,8 @@ ghost use Rattle.lists.specs.Choice.{pick};
 ghost use Rattle.nick.specs.Blocks.{vres};
 ghost use Rattle.nick.specs.Slots.{leftMargin, rightMargin, modeNumbered, fontAddress};
 ghost use Rattle.nick.specs.Scanline.{activeAt, pointersAfter};
-ghost use Rattle.nick.specs.Refusals.{loadPastEnd};
 ghost use Rattle.walk.specs.Steps.{StepsOf, advanced, activeBefore, skipped};
-ghost use Rattle.walk.specs.Walks.{Formed, Turns, Walks};
+ghost use Rattle.walk.specs.Walks.{Formed, Reached, Turns};
 use nick::Block;
 use nick::Pointers;
 use nick::Registers;
@@ -22,18 +21,10 @@ pub struct Steps {
     pub line: u16,
 }
 
-// One turn of the walk: whether a block to be loaded runs past the end of RAM; else how many scanlines it went on, and the
-// scan after them.
+// One turn of the walk: how many scanlines it went on, and the scan after them.
 struct Turned {
-    past: bool,
     lines: usize,
     scan: Scan,
-}
-
-// What the walk answers: whether a block to be loaded runs past the end of RAM, else the scan that it came to.
-pub struct Walked {
-    pub past: bool,
-    pub scan: Scan,
 }
 
 // The smaller of two numbers.
@@ -159,60 +150,33 @@ fn lines_inside(scan: Scan, lines: usize) -> u16
     scan.left
 }
 
-// Whether the next scanline loads a block that would run past the end of RAM.
-pub fn loads_past_end(registers: Registers, scan: Scan) -> bool
-    requires { ⌜ scan .number < 4096 ⌝ }
-    ensures { λ r. ⌜ r ≡ loadPastEnd registers scan ⌝ }
-{
-    if blocks::is_loading(scan) {
-        let number = blocks::loaded_number(registers, scan) as usize;
-        65536 < 16 * number + 16
-    } else {
-        false
-    }
-}
-
 // One turn: the scanlines up to the next load, at most `lines` of them.
 fn turn(registers: Registers, ram: &[u8], scan: Scan, lines: usize) -> Turned
     requires { ⌜ (length (now ram) ≡ 65536) × Formed scan × (1 ≤ lines) ⌝ }
     ensures { λ r. ⌜ Turns registers (now (ram .entry)) scan lines r ⌝ }
 {
-    if loads_past_end(registers, scan) {
-        return Turned {
-            past: true,
-            lines: 0,
-            scan,
-        };
-    }
     let begun = blocks::begin(registers, ram, scan);
     let n = lines_inside(begun, lines);
     let scan = skip(begun, n);
     Turned {
-        past: false,
         lines: n as usize,
         scan,
     }
 }
 
-// The scan after `lines` scanlines, from block to block; `past` where a block to be loaded would run past the end of RAM.
-pub fn walk(registers: Registers, ram: &[u8], scan: Scan, lines: usize) -> Walked
+// The scan after `lines` scanlines, from block to block.
+pub fn walk(registers: Registers, ram: &[u8], scan: Scan, lines: usize) -> Scan
     requires { ⌜ (length (now ram) ≡ 65536) × Formed scan ⌝ }
-    ensures { λ r. ⌜ Walks registers (now (ram .entry)) scan lines r ⌝ }
+    ensures { λ r. ⌜ Reached registers (now (ram .entry)) scan lines r ⌝ }
 {
     let mut at = scan;
     let mut done = 0;
     while done < lines {
         let turned = turn(registers, ram, at, lines - done);
-        if turned.past {
-            return Walked { past: true, scan };
-        }
         at = turned.scan;
         done += turned.lines;
     }
-    Walked {
-        past: false,
-        scan: at,
-    }
+    at
 }
 
 // 2 to the power n.

@@ -1,6 +1,6 @@
 -- `direct::dot` tests in the table's order; a dot that is not refused is the one of its slot in the scanline that has begun.
-use mathlib.Core.Path.{sym, _∙_}
-use Rattle.direct.proofs.Answers.{refused-3-left, refused-3-number, refused-4, refused-9-line, refused-9-dot, refused-11, not-refused}
+use mathlib.Core.Path.{_∙_}
+use Rattle.direct.proofs.Answers.{refused-3-left, refused-3-number, refused-4, refused-9-line, refused-9-dot, not-refused}
 use borrow.Author.Needs.{needs}
 use Rattle.direct.proofs.dot.Statement.{statement}
 use Rattle.direct.proofs.dot.Tie as tie
@@ -33,20 +33,20 @@ returns-5 c =
 begin-line-requires : tie.Need-begin-line-requires
 begin-line-requires c κs = search needs
 
-returns-6 : tie.Need-returns-6
-returns-6 c =
-    let a = c .before .before .before .before .before .before .before .before .before .before .before .before .args in
-    refused-11 (a .state) (a .ram .now) (a .line) (a .dot) (a .external) (c .before .before .before .before .before .before .before .before .if1 .left) (c .before .before .before .before .before .before .if2 .left) (c .before .before .before .before .before .if3 .left) (c .before .before .before .before .if4 .left) (c .before .before .before .if5 .left) (sym (c .before .begin-line .ensures .past) ∙ c .if6 .taken)
-
 begun-dot-requires : tie.Need-begun-dot-requires
 begun-dot-requires c κs = search needs
 
-returns-7 : tie.Need-returns-7
-returns-7 c =
-    let a = c .before .before .before .before .before .before .before .before .before .before .before .before .before .before .args in
-    let l = c .before .before .before .begin-line in
+returns-6 : tie.Need-returns-6
+returns-6 c =
+    let line = c .before .begin-line in
+    let test5 = c .before .before .before in
+    let test4 = test5 .before in
+    let test3 = test4 .before in
+    let test2 = test3 .before in
+    let test1 = test2 .before .before in
+    let a = test1 .before .before .before .before .args in
     c .begun-dot .ensures
-    ∙ not-refused (a .state) (a .ram .now) (a .line) (a .dot) (a .external) (c .before .before .before .before .before .before .before .before .before .before .if1 .left) (c .before .before .before .before .before .before .before .before .if2 .left) (c .before .before .before .before .before .before .before .if3 .left) (c .before .before .before .before .before .before .if4 .left) (c .before .before .before .before .before .if5 .left) (sym (l .ensures .past) ∙ c .before .before .if6 .left) (l .result .scan) (l .ensures .scan (c .before .before .if6 .left))
+    ∙ not-refused (a .state) (a .ram .now) (a .line) (a .dot) (a .external) (test1 .if1 .left) (test2 .if2 .left) (test3 .if3 .left) (test4 .if4 .left) (test5 .if5 .left) (line .result) (line .ensures)
 
 pub dot-spec : {M : Type 1} → statement M
 dot-spec =
@@ -58,6 +58,5 @@ dot-spec =
     returns-4
     returns-5
     begin-line-requires
-    returns-6
     begun-dot-requires
-    returns-7)
+    returns-6)

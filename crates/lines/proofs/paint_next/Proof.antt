@@ -82,7 +82,7 @@ returns c =
     let accepted =
     e .refusal
     ∙ refusal-is s (a .ram .now) 1 d k part
-    ∙ line-accepted s (a .ram .now) d k part low (ready .number) (ready .left) (ready .full)
+    ∙ line-accepted s (a .ram .now) d k part (ready .number) (ready .left) (ready .full)
     (part-length (a .dots .now) (736 * y) 736 (c .before .before .before .before .before .before .before .before .before .before .before .before .before .before .before .pre .0 .1)) (part-length (a .records .now) (recordBytes * y) 4 (c .before .before .before .before .before .before .before .before .before .before .before .before .before .before .before .pre .0 .2))
     (part-fits (a .external .now) y from to (c .before .before .before .before .before .before .before .before .before .before .smaller .ensures) (c .before .before .before .before .before .before .before .before .before .smaller2 .ensures) (ready .fits)) in
     let formed = next-formed (a .ram .now) s low (ready .number) (ready .left) in

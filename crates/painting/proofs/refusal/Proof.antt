@@ -1,7 +1,7 @@
 -- `painting::refusal` makes the table's tests in its order; each return is the law of the test that led there.
 use mathlib.Core.Path.{sym, _∙_}
 use borrow.Author.Tests.{not-true, not-false}
-use Rattle.painting.proofs.Table.{refused-left, refused-number, refused-ram, refused-zero, refused-tall, refused-dots, refused-records, refused-external, refused-load, not-refused}
+use Rattle.painting.proofs.Table.{refused-left, refused-number, refused-ram, refused-zero, refused-tall, refused-dots, refused-records, refused-external, not-refused}
 use borrow.Author.Needs.{needs}
 use Rattle.painting.proofs.refusal.Statement.{statement}
 use Rattle.painting.proofs.refusal.Tie as tie
@@ -63,22 +63,12 @@ returns-8 c =
     refused-external (a .state) (a .ram .now) (a .height) (a .dots .now) (a .records .now) (a .external .now)
     (c .before .before .before .before .before .before .before .before .before .if1 .left) (c .before .before .before .before .before .before .before .if2 .left) (c .before .before .before .before .before .before .if3 .left) (c .before .before .before .before .before .if4 .left) (c .before .before .before .before .if5 .left) (c .before .before .before .if6 .left) (c .before .before .if7 .left) (sym (e .ensures) ∙ not-true (e .result) (c .if8 .taken))
 
-walk-requires : tie.Need-walk-requires
-walk-requires c κs = search needs
-
 returns-9 : tie.Need-returns-9
 returns-9 c =
-    let a = c .before .before .before .before .before .before .before .before .before .before .before .before .before .before .before .before .before .args in
-    let e = c .before .before .before .external-fits in
-    refused-load (a .state) (a .ram .now) (a .height) (a .dots .now) (a .records .now) (a .external .now)
-    (c .before .before .before .before .before .before .before .before .before .before .before .if1 .left) (c .before .before .before .before .before .before .before .before .before .if2 .left) (c .before .before .before .before .before .before .before .before .if3 .left) (c .before .before .before .before .before .before .before .if4 .left) (c .before .before .before .before .before .before .if5 .left) (c .before .before .before .before .before .if6 .left) (c .before .before .before .before .if7 .left) (sym (e .ensures) ∙ not-false (e .result) (c .before .before .if8 .left)) (sym (c .before .walk .ensures .past) ∙ c .if9 .taken)
-
-returns-10 : tie.Need-returns-10
-returns-10 c =
-    let a = c .before .before .before .before .before .before .before .before .before .before .before .before .before .before .before .before .before .args in
-    let e = c .before .before .before .external-fits in
+    let a = c .before .before .before .before .before .before .before .before .before .before .before .before .before .before .before .args in
+    let e = c .before .external-fits in
     not-refused (a .state) (a .ram .now) (a .height) (a .dots .now) (a .records .now) (a .external .now)
-    (c .before .before .before .before .before .before .before .before .before .before .before .if1 .left) (c .before .before .before .before .before .before .before .before .before .if2 .left) (c .before .before .before .before .before .before .before .before .if3 .left) (c .before .before .before .before .before .before .before .if4 .left) (c .before .before .before .before .before .before .if5 .left) (c .before .before .before .before .before .if6 .left) (c .before .before .before .before .if7 .left) (sym (e .ensures) ∙ not-false (e .result) (c .before .before .if8 .left)) (sym (c .before .walk .ensures .past) ∙ c .if9 .left)
+    (c .before .before .before .before .before .before .before .before .before .if1 .left) (c .before .before .before .before .before .before .before .if2 .left) (c .before .before .before .before .before .before .if3 .left) (c .before .before .before .before .before .if4 .left) (c .before .before .before .before .if5 .left) (c .before .before .before .if6 .left) (c .before .before .if7 .left) (sym (e .ensures) ∙ not-false (e .result) (c .if8 .left))
 
 pub refusal-spec : {M : Type 1} → statement M
 refusal-spec =
@@ -95,6 +85,4 @@ refusal-spec =
     returns-7
     external-fits-requires
     returns-8
-    walk-requires
-    returns-9
-    returns-10)
+    returns-9)
