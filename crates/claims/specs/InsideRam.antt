@@ -13,7 +13,7 @@ use Rattle.nick.specs.declared.State.{State}
 abbrev pub runsPastEnd : ℕ → Bool
 runsPastEnd number = ltb 65535 (16 * number + 15)
 
--- one of these blocks does
+-- one of these blocks does; mathlib's `any` would say it, but does not compute outside its own library
 abbrev pub anyPastEnd : List ℕ → Bool
 anyPastEnd [] = false
 anyPastEnd (number ∷ more) = runsPastEnd number || anyPastEnd more
