@@ -36,11 +36,11 @@ extern "C" {
 #define NICK_RECORD_BYTES 4  /* the record of a scanline */
 #define NICK_MOST_LINES 1024 /* scanlines of one painting */
 
-/* Refusals. 0 is none; where several apply, the smallest is given.
+/* Refusals. 0 is none. 20 is given before all else; of the others, where several apply, the smallest.
  *
  *    1  register write: port outside 128 to 143
  *    2  register write: port 132 to 143 (reserved)
- *    3  state not 32 bytes; in a painting and a direct answer also scanlines left over 256, or block number over 4,095
+ *    3  painting, direct answer: scanlines left over 256, or block number over 4,095
  *    4  RAM not 65,536 bytes
  *    5  height 0 or over 1,024
  *    6  dot buffer not 736 times the height
@@ -49,14 +49,15 @@ extern "C" {
  *    9  direct answer: line over 1,023 or dot over 735
  *   10  listing: output shorter than the whole listing
  *   11  given by no call
+ *   20  state not 32 bytes
  *
  * A refused call leaves every byte of the state, the dots and the listing's output as it was. A refused painting writes 255
  * over the whole record buffer, whatever its length. */
 
-/* Writes the fresh state: all zero but LPH 192 and a pending reload. Answers 0, or 3. */
+/* Writes the fresh state: all zero but LPH 192 and a pending reload. Answers 0, or refusal 20. */
 uint32_t nick_fresh(uint8_t *state, size_t state_bytes);
 
-/* Writes one register: port 128 FIXBIAS, 129 BORDER, 130 LPL, 131 LPH. Answers 0, or refusal 1, 2 or 3. */
+/* Writes one register: port 128 FIXBIAS, 129 BORDER, 130 LPL, 131 LPH. Answers 0, or refusal 1, 2 or 20. */
 uint32_t nick_write(uint8_t *state, size_t state_bytes, uint32_t port, uint8_t value);
 
 /* Paints the next scanline: its 736 dots, its record and the state after it. `external` is one byte for each dot (bit 7 set:
@@ -66,13 +67,13 @@ uint32_t nick_write(uint8_t *state, size_t state_bytes, uint32_t port, uint8_t v
  * loaded, bit 4 no scanlines are left, bit 5 video mode 6. Byte 1: slots of 57 at sync level. Byte 2: bytes fetched from video
  * RAM. Byte 3: active slots in modes that fetch.
  *
- * Answers 0, or refusal 3, 4, 6, 7 or 8. */
+ * Answers 0, or refusal 3, 4, 6, 7, 8 or 20. */
 uint32_t nick_paint_line(uint8_t *state, size_t state_bytes, const uint8_t *ram, size_t ram_bytes, uint8_t *dots,
                          size_t dot_bytes, uint8_t *records, size_t record_bytes, const uint8_t *external,
                          size_t external_bytes);
 
 /* Paints the next `height` scanlines, as that many single ones in order. Line y has the 736 dots from dot 736 times y on, and
- * the 4 record bytes from byte 4 times y on. Answers 0, or refusal 3 to 8. */
+ * the 4 record bytes from byte 4 times y on. Answers 0, or refusal 3 to 8, or 20. */
 uint32_t nick_paint(uint8_t *state, size_t state_bytes, const uint8_t *ram, size_t ram_bytes, size_t height, uint8_t *dots,
                     size_t dot_bytes, uint8_t *records, size_t record_bytes, const uint8_t *external,
                     size_t external_bytes);
@@ -80,7 +81,7 @@ uint32_t nick_paint(uint8_t *state, size_t state_bytes, const uint8_t *ram, size
 /* The direct answer: what dot `dot` of the scanline that is `line` scanlines from here would be, with `external` as its
  * external byte (0 if nothing is connected), and the addresses in video RAM that it came from.
  *
- *   bits  0 to  7  the refusal: 0, 3, 4 or 9; if it is not 0, all other bits are 0
+ *   bits  0 to  7  the refusal: 0, 3, 4, 9 or 20; if it is not 0, all other bits are 0
  *   bits  8 to 15  the colour
  *   bits 16 to 23  how many addresses there are: 0, 1 or 2
  *   bits 24 to 39  the first address, or 0
@@ -91,7 +92,7 @@ uint64_t nick_dot(const uint8_t *state, size_t state_bytes, const uint8_t *ram, 
 /* Writes the text of the line parameter table that starts at the base block. Bytes after it stay as they are; no zero is
  * added. 330,000 bytes are always enough. Of the state the registers alone count.
  *
- *   bits  0 to 31  the refusal: 0, 3, 4 or 10; if it is not 0, all other bits are 0
+ *   bits  0 to 31  the refusal: 0, 4, 10 or 20; if it is not 0, all other bits are 0
  *   bits 32 to 63  the length of the text */
 uint64_t nick_list(const uint8_t *state, size_t state_bytes, const uint8_t *ram, size_t ram_bytes, uint8_t *out,
                    size_t out_bytes);

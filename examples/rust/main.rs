@@ -109,6 +109,9 @@ fn bytes_given(state: &State, family: u64, case: u64) -> [u8; 32] {
     bytes
 }
 
+/// What every call answers for a state of another length than 32, before all else.
+const WRONG_LENGTH: u32 = 20;
+
 /// A state of another length than 32: 0 to 31 bytes, or 33 to 63.
 fn wrong_state(case: u64) -> Vec<u8> {
     let length = case % 63;
@@ -121,7 +124,7 @@ fn compare_fresh() -> Outcome {
     same_bytes("fresh state", &bytes, &state_bytes(&State::fresh()))?;
     for case in 0..63 {
         let mut bytes = wrong_state(case);
-        same("refusal of a fresh state of another length", library::fresh(&mut bytes), 3)?;
+        same("refusal of a fresh state of another length", library::fresh(&mut bytes), WRONG_LENGTH)?;
         same_bytes("state of another length", &bytes, &wrong_state(case))?;
     }
     Ok(())
@@ -165,7 +168,7 @@ fn compare_frame(case: u64, lent: &mut Buffers, kept: &mut Buffers) -> Outcome {
     same_bytes("records", records, records_kept)?;
 
     let mut bytes = wrong_state(case);
-    same("refusal of a painting, state of another length", paint(&mut bytes, dots, records), 3)?;
+    same("refusal of a painting, state of another length", paint(&mut bytes, dots, records), WRONG_LENGTH)?;
     same_bytes("state of another length", &bytes, &wrong_state(case))?;
     same("dots kept", dots.iter().all(|&dot| dot == 170), true)?;
     same("records stamped", records.iter().all(|&byte| byte == 255), true)
@@ -194,7 +197,8 @@ fn compare_dots(case: u64, lent: &mut Buffers) -> Outcome {
             .map(|answer| (answer.colour, answer.addresses[..answer.count].to_vec()));
         let what = format!("line {line}, dot {dot}");
         same(&what, library::dot(&bytes, ram, line, dot, q.external), expected)?;
-        same(&what, library::dot(&wrong_state(case), ram, line, dot, q.external), Err(3))?;
+        let refused = library::dot(&wrong_state(case), ram, line, dot, q.external).map_err(u32::from);
+        same(&what, refused, Err(WRONG_LENGTH))?;
     }
     Ok(())
 }
@@ -212,7 +216,7 @@ fn compare_listings(case: u64, lent: &mut Buffers, kept: &mut Buffers) -> Outcom
         let (out, expected) = (&mut lent.text[..room], &mut kept.text[..room]);
         out.fill(170);
         expected.fill(170);
-        same("listing, state of another length", library::list(&wrong_state(case), ram, out), Err(3))?;
+        same("listing, state of another length", library::list(&wrong_state(case), ram, out), Err(WRONG_LENGTH))?;
         same_bytes("output of a refused listing", out, expected)?;
         let answer = nick::list_table(&state, ram, expected).map_err(u32::from);
         same("listing's answer", library::list(&bytes, ram, out), answer)?;
@@ -236,8 +240,7 @@ fn compare_writes(case: u64) -> Outcome {
         same_bytes(&what, &bytes, &state_left(expected, &state, &given))?;
 
         let mut wrong = wrong_state(case);
-        let smallest = if expected == 0 { 3 } else { u32::from(expected) };
-        same(&what, library::write(&mut wrong, port, data), smallest)?;
+        same(&what, library::write(&mut wrong, port, data), WRONG_LENGTH)?;
         same_bytes("state of another length", &wrong, &wrong_state(case))?;
     }
     Ok(())

@@ -18,7 +18,7 @@ use Rattle.nick.specs.Refusals.{illFormed, directRefusal}
 use Rattle.nick.specs.Painting.{Painting, externalAt, frameDots}
 use Rattle.nick.specs.Direct.{direct, directColour, directNames, colour}
 use Rattle.nick.specs.declared.State.{State}
-use Rattle.claims.specs.Demand3.{Call, oneLine, lines, heightOf, externalOf, paintingOf, Made, run, linesOf, linesIn, placeOf, PaintsLine, Demand3, EveryLine}
+use Rattle.claims.specs.Demand3.{Call, oneLine, lines, heightOf, externalOf, paintingOf, Made, madeOf, run, linesOf, linesIn, placeOf, PaintsLine, AnsweredDirectly, Demand3, EveryLine}
 use Rattle.claims.proofs.Scanlines.{scan-add, state-add, registers-kept, scan-of-state}
 use Rattle.claims.proofs.Slots.{own-external}
 use Rattle.claims.proofs.Frames.{frame-dot}
@@ -31,8 +31,8 @@ call-leaves s ram (lines height dots records external) = paint-leaves s ram heig
 -- m is made from the state after b lines; if m is accepted, the first state was well-formed, since from any other every call is
 -- refused
 record MadeAfter (s : State) (ram : List ℕ) (b : ℕ) (m : Made) : Type 0 where
-  made : m .painting ≡ paintingOf (stateAfter ram b s) ram (m .call)
-  formed : m .painting .refusal ≡ 0 → illFormed (s .scan) ≡ false
+  made : m ≡ madeOf (stateAfter ram b s) ram (m .call)
+  formed : m .refusal ≡ 0 → illFormed (s .scan) ≡ false
 
 -- the state before a call was well-formed, if the one that it returned is
 formed-before :
@@ -65,15 +65,15 @@ made-after :
 made-after s ram [] [] m after e = absurd (omega (arith, ap length e))
 made-after s ram [] (d ∷ before) m after e = absurd (omega (arith, ap length e))
 made-after s ram (c ∷ calls) [] m after e =
-    let first : record { call = c; painting = paintingOf s ram c } ≡ m = cc in
+    let first : madeOf s ram c ≡ m = cc in
     rw (← first) (record { made = refl; formed = call-leaves s ram c .formed })
 made-after s ram (c ∷ calls) (d ∷ before) m after e =
     let p = paintingOf s ram c in
-    let first : record { call = c; painting = p } ≡ d = cc in
+    let first : madeOf s ram c ≡ d = cc in
     let rest : run (p .state) ram calls ≡ before ++ (m ∷ after) = cc in
     let l = call-leaves s ram c in
     rw (← first)
-    (later s (p .state) ram (linesOf (record { call = c; painting = p })) (linesIn before) m (l .state)
+    (later s (p .state) ram (linesOf (madeOf s ram c)) (linesIn before) m (l .state)
     (formed-before s ram (heightOf c) (externalOf c) p l)
     (made-after (p .state) ram calls before m after rest))
 
@@ -88,41 +88,35 @@ frame-direct s ram external b h i x l k =
     ∙ rw (registers-kept ram b s, scan-of-state ram b s, ← scan-add (s .registers) ram b i (s .scan))
     (own-external (s .registers) ram (scanAfter (s .registers) ram (b + i) (s .scan)) (externalAt external i) x k)
 
--- the direct answer where nothing is refused
-answers :
-    (s : State) (ram : List ℕ) (y x e : ℕ)
-    → illFormed (s .scan) ≡ false
-    → length ram ≡ 65536
-    → y ≤ 1023
-    → x ≤ 735
-    → direct s ram y x e ≡ colour (directColour s ram y x e) (directNames s ram y x)
+pub answered-directly : AnsweredDirectly
 unfolding direct directRefusal
-answers s ram y x e formed full hy hx =
-    rw (formed, eq-eqb (length ram) 65536 full, le-ltb 1023 y hy, le-ltb 735 x hx)
+answered-directly s ram y x e formed full reach =
+    rw (formed, eq-eqb (length ram) 65536 full, le-ltb 1023 y (reach .0), le-ltb 735 x (reach .1))
 
 pub demand3 : Demand3
-demand3 s ram calls before m after y x hy hx e p =
+demand3 s ram calls before m after y x reach e p =
     let b = linesIn before in
     let t = stateAfter ram b s in
     let h = heightOf (m .call) in
     let external = externalOf (m .call) in
     let place = placeOf b y x in
     let r = made-after s ram calls before m after e in
-    let l : Leaves t ram h external (m .painting) = rw (r .made) (call-leaves t ram (m .call)) in
+    let l = call-leaves t ram (m .call) in
+    let accepted : paintingOf t ram (m .call) .refusal ≡ 0 = rw (r .made) at (p .accepted) in
     let line : b + (y - b) ≡ y = omega (arith, p .first) in
-    let dot : byteAt (m .painting .dots) place ≡ directColour s ram y x (byteAt external place) =
-    rw (l .dots (p .accepted))
-    (frame-direct s ram external b h (y - b) x (omega (arith, p .last, p .first)) (omega arith)
+    let dot : byteAt (m .dots) place ≡ directColour s ram y x (byteAt external place) =
+    rw (r .made, l .dots accepted)
+    (frame-direct s ram external b h (y - b) x (omega (arith, p .last, p .first)) (omega (arith, reach .1))
     ∙ ap (λ (n : ℕ). directColour s ram n x (byteAt external place)) line) in
-    answers s ram y x (byteAt external place) (r .formed (p .accepted)) (l .full (p .accepted)) hy hx
+    answered-directly s ram y x (byteAt external place) (r .formed (p .accepted)) (l .full accepted) reach
     ∙ ap (λ (k : ℕ). colour k (directNames s ram y x)) (sym dot)
 
 -- a painting that adds a line is accepted
 adds-line : (m : Made) (y : ℕ) → y < linesOf m → PaintsLine [] m y
-adds-line m y = go (eqb (m .painting .refusal) 0) refl
+adds-line m y = go (eqb (m .refusal) 0) refl
   where
-    go : (t : Bool) → eqb (m .painting .refusal) 0 ≡ t → y < pick t (heightOf (m .call)) 0 → PaintsLine [] m y
-    go true e h = record { accepted = eqb-true (m .painting .refusal) 0 e; first = omega arith; last = omega arith }
+    go : (t : Bool) → eqb (m .refusal) 0 ≡ t → y < pick t (heightOf (m .call)) 0 → PaintsLine [] m y
+    go true e h = record { accepted = eqb-true (m .refusal) 0 e; first = omega arith; last = omega arith }
     go false e h = absurd (not-suc-le-zero h)
 
 pub every-line : EveryLine

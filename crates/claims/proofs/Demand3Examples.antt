@@ -14,10 +14,10 @@ use Rattle.nick.specs.Sync.{lineSync}
 use Rattle.nick.specs.Record.{nextState}
 use Rattle.nick.specs.Refusals.{paintingRefusal}
 use Rattle.nick.specs.Painting.{painted, refusedPainting, paint}
-use Rattle.nick.specs.Direct.{direct, directNames, dependsOn, colour}
+use Rattle.nick.specs.Direct.{direct, directColour, directNames, dependsOn, colour}
 use Rattle.nick.specs.declared.State.{State}
-use Rattle.claims.specs.Demand3.{Call, oneLine, lines, paintingOf, Made, run}
-use Rattle.claims.proofs.Demand3.{demand3}
+use Rattle.claims.specs.Demand3.{Call, oneLine, lines, paintingOf, Made, madeOf, run}
+use Rattle.claims.proofs.Demand3.{answered-directly, demand3}
 use Rattle.claims.proofs.Dependence.{dependence}
 
 -- block 0: two scanlines of PIXEL with VRES, margins 10 and 12, LD1 64, colours 10 to 17
@@ -57,24 +57,31 @@ mixed = lines 2 (replicate 1472 0) (replicate 8 0) (replicate 768 0 ++ (135 ∷ 
 abbrev calls : List Call
 calls = frame ∷ refused ∷ single ∷ mixed ∷ []
 
--- each call made from the state that the one before returned
-abbrev made : State → Call → Made
-made s c = record { call = c; painting = paintingOf s ram c }
+-- the state that each call leaves
+abbrev afterFrame : State
+afterFrame = paintingOf freshState ram frame .state
 
+abbrev afterRefused : State
+afterRefused = paintingOf afterFrame ram refused .state
+
+abbrev afterSingle : State
+afterSingle = paintingOf afterRefused ram single .state
+
+-- each call made from the state that the one before returned
 abbrev first : Made
-first = made freshState frame
+first = madeOf freshState ram frame
 
 abbrev second : Made
-second = made (first .painting .state) refused
+second = madeOf afterFrame ram refused
 
 abbrev third : Made
-third = made (second .painting .state) single
+third = madeOf afterRefused ram single
 
 abbrev fourth : Made
-fourth = made (third .painting .state) mixed
+fourth = madeOf afterSingle ram mixed
 
 -- the second call is refused with number 5, the others are accepted
-pub refusals : map (λ (m : Made). m .painting .refusal) (run freshState ram calls) ≡ 0 ∷ 5 ∷ 0 ∷ 0 ∷ []
+pub refusals : map (λ (m : Made). m .refusal) (run freshState ram calls) ≡ 0 ∷ 5 ∷ 0 ∷ 0 ∷ []
 unfolding
     loadedNumber decoded blockAt loaded continued begun modeNumbered ended nextScan lineSync nextState paintingRefusal
     painted refusedPainting paint
@@ -91,15 +98,22 @@ unfolding
     characterAdded paletteColour priorityGives mixedColour slotDots begunDots lineDots ended nextScan lineSync nextState
     paintingRefusal painted refusedPainting paint directNames
 answers = (
-  demand3 freshState ram calls [] first (second ∷ third ∷ fourth ∷ []) 1 40 (lit≤ tt) (lit≤ tt) refl
+  demand3 freshState ram calls [] first (second ∷ third ∷ fourth ∷ []) 1 40 (lit≤ tt, lit≤ tt) refl
       (record { accepted = refl; first = lit≤ tt; last = lit≤ tt }),
-  demand3 freshState ram calls (first ∷ second ∷ []) third (fourth ∷ []) 2 48 (lit≤ tt) (lit≤ tt) refl
+  demand3 freshState ram calls (first ∷ second ∷ []) third (fourth ∷ []) 2 48 (lit≤ tt, lit≤ tt) refl
       (record { accepted = refl; first = lit≤ tt; last = lit≤ tt }),
-  demand3 freshState ram calls (first ∷ second ∷ third ∷ []) fourth [] 4 32 (lit≤ tt) (lit≤ tt) refl
+  demand3 freshState ram calls (first ∷ second ∷ third ∷ []) fourth [] 4 32 (lit≤ tt, lit≤ tt) refl
       (record { accepted = refl; first = lit≤ tt; last = lit≤ tt }),
 )
 
--- the last of these depends on SC and MB of block 0, on block 1, and on the code and the font byte
+-- the last line that can be asked about, with nothing painted: the second row of its character's font
+pub last-line : direct freshState ram 1023 34 0 ≡ colour 21 (80 ∷ 515 ∷ [])
+unfolding
+    loadedNumber decoded blockAt loaded continued begun modeNumbered fontAddress coloursNumbered characterAdded paletteColour
+    mixedColour slotDots begunDots lineDots ended nextScan directColour directNames
+last-line = answered-directly freshState ram 1023 34 0 refl refl (lit≤ tt, lit≤ tt)
+
+-- the last of the painted dots depends on SC and MB of block 0, on block 1, and on the code and the font byte
 pub depends : dependsOn freshState ram 4 32 ≡ 0 ∷ 1 ∷ blockAddresses 1 ++ (80 ∷ 771 ∷ [])
 unfolding
     loadedNumber decoded blockAt blockAddresses loaded continued begun modeNumbered fontAddress ended nextScan directNames

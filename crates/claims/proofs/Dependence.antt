@@ -25,7 +25,8 @@ use Rattle.nick.specs.declared.Pointers.{Pointers}
 use Rattle.nick.specs.declared.Block.{Block}
 use Rattle.nick.specs.declared.Scan.{Scan}
 use Rattle.nick.specs.declared.State.{State}
-use Rattle.claims.specs.Demand3.{Dependence}
+use Rattle.nick.proofs.Answers.{answered-determines}
+use Rattle.claims.specs.Demand3.{Dependence, SameReturned}
 use Rattle.claims.proofs.Slots.{length-line, line-dot}
 
 -- the addresses of SC and MB of these blocks
@@ -324,3 +325,7 @@ dependence s ram other y x e long same =
     (same-refusal s ram other y x long)
     (same-colour ram other g c d alike x named e)
     (same-names ram other g c d alike x named)
+
+pub same-returned : SameReturned
+same-returned s ram other y x e given returned long same a b =
+    answered-determines returned given (b ∙ (dependence s ram other y x e long same ∙ sym a))

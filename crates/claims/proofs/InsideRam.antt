@@ -2,18 +2,18 @@
 -- loaded is at most 4,095, and the last byte of that block is at 65,535.
 use mathlib.Core.Path.{_≡_, refl, sym}
 use mathlib.Core.Bool.{Bool, true, false, _||_, or-assoc}
-use mathlib.Core.List.{List, [], _∷_, _++_, map}
+use mathlib.Core.List.{List, [], _∷_, _++_}
 use Prim.Native.Nat.{ℕ, zero, suc, _+_, _*_, _<_}
 use native.Mathlib.Omega.{arith}
-use lib.ListN.{replicate}
 use borrow.Author.Tests.{le-ltb}
 use Rattle.lists.specs.Choice.{pick}
-use Rattle.nick.specs.Registers.{zeroPointers, zeroBlock, writtenRegisters, writtenScan, written, freshState}
+use Rattle.nick.specs.Registers.{zeroPointers, zeroBlock, writtenRegisters, writtenScan, written}
 use Rattle.nick.specs.Blocks.{loads, loadedNumber, decoded, blockAt, loaded, continued, begun}
 use Rattle.nick.specs.Slots.{modeNumbered}
 use Rattle.nick.specs.Scanline.{ended, nextScan, scanAfter}
 use Rattle.nick.specs.Refusals.{illFormed}
 use Rattle.nick.specs.Direct.{loadOf, loadedOnTheWay}
+use Rattle.nick.specs.Examples.{lastBase, lastBlock}
 use Rattle.nick.specs.declared.Registers.{Registers}
 use Rattle.nick.specs.declared.Scan.{Scan}
 use Rattle.nick.specs.declared.State.{State}
@@ -41,22 +41,12 @@ inside g ram (suc n) c h f =
 pub never-past-end : NeverPastEnd
 never-past-end s ram n h e = inside (s .registers) ram n (s .scan) h (formed (s .scan) e)
 
--- The case that comes nearest, P10's: LPL 255 and LPH 255 written to the fresh state.
-abbrev lastBase : State
-lastBase = written (written freshState 130 255) 131 255
-
--- the block at 65,520 has one scanline and no RELOAD
-abbrev lastBlock : List ℕ
-lastBlock = replicate 65520 0 ++ (255 ∷ replicate 15 0)
-
--- a well-formed state; the block at 65,520 is loaded, whose last byte is at 65,535, and then the one at 0
-pub nearest :
-    (illFormed (lastBase .scan) ≡ false)
-    × (map (λ n. 16 * n) (loadedOnTheWay (lastBase .registers) lastBlock 2 (lastBase .scan)) ≡ 65520 ∷ 0 ∷ [])
-    × (pastEnd lastBase lastBlock 2 ≡ false)
+-- The case that comes nearest, P10's, is of a well-formed state: the block at 65,520 is loaded, whose last byte is at 65,535, and
+-- then the one at 0 (Examples).
+pub nearest : (illFormed (lastBase .scan) ≡ false) × (pastEnd lastBase lastBlock 2 ≡ false)
 unfolding
     writtenRegisters writtenScan written loadedNumber decoded blockAt loaded continued begun modeNumbered ended nextScan
-nearest = (refl, refl, refl)
+nearest = (refl, refl)
 
 -- Both conditions are needed; RAM is empty, since the first block's number does not come from it. A state whose next scanline
 -- loads a block, by LPL, LPH, pending and its block number.

@@ -1,6 +1,7 @@
 -- Demand 3 (document 01, "The direct answer"): over any list of paintings the direct answer is the painted dot, and it depends
 -- on few bytes of RAM.
 use mathlib.Core.Path.{_≡_}
+use mathlib.Core.Bool.{false}
 use mathlib.Core.List.{List, [], _∷_, _++_, map}
 use Prim.Native.Nat.{ℕ, _+_, _-_, _*_, _≤_, _<_}
 use lib.Dec.{eqb}
@@ -8,8 +9,10 @@ use lib.ListN.{length}
 use Rattle.lists.specs.Choice.{pick}
 use Rattle.nick.specs.Numbers.{byteAt}
 use Rattle.nick.specs.Painting.{Painting, paint, paintLine}
-use Rattle.nick.specs.Direct.{direct, directNames, dependsOn, colour}
+use Rattle.nick.specs.Refusals.{illFormed}
+use Rattle.nick.specs.Direct.{answered, direct, directColour, directNames, dependsOn, colour}
 use Rattle.nick.specs.declared.State.{State}
+use Rattle.nick.specs.declared.Answer.{Answer}
 
 -- "Demand 3's list holds calls of both paintings, with any height and buffers."
 pub data Call : Type 0 where
@@ -29,20 +32,27 @@ abbrev pub paintingOf : State → List ℕ → Call → Painting
 paintingOf s ram (oneLine dots records external) = paintLine s ram dots records external
 paintingOf s ram (lines height dots records external) = paint s ram height dots records external
 
--- a call that was made, with what it left
+-- a call that was made, with what its caller has of it: the refusal, 0 for none, and the two buffers
 pub record Made : Type 0 where
   pub call : Call
-  pub painting : Painting
+  pub refusal : ℕ
+  pub dots : List ℕ
+  pub records : List ℕ
+
+abbrev pub madeOf : State → List ℕ → Call → Made
+madeOf s ram c =
+    let p = paintingOf s ram c in
+    record { call = c; refusal = p .refusal; dots = p .dots; records = p .records }
 
 -- "The first gets the state given, each other the one that the call before it returned, refused or not; nothing else changes
 -- it."
 abbrev pub run : State → List ℕ → List Call → List Made
 run s ram [] = []
-run s ram (c ∷ more) = record { call = c; painting = paintingOf s ram c } ∷ run (paintingOf s ram c .state) ram more
+run s ram (c ∷ more) = madeOf s ram c ∷ run (paintingOf s ram c .state) ram more
 
 -- "Lines count on from 0 over the list, a refused painting adding none"
 abbrev pub linesOf : Made → ℕ
-linesOf m = pick (eqb (m .painting .refusal) 0) (heightOf (m .call)) 0
+linesOf m = pick (eqb (m .refusal) 0) (heightOf (m .call)) 0
 
 abbrev pub linesIn : List Made → ℕ
 linesIn [] = 0
@@ -55,9 +65,23 @@ placeOf b y x = 736 * (y - b) + x
 
 -- m is accepted and paints line y of the list, `before` being the calls made before it
 pub record PaintsLine (before : List Made) (m : Made) (y : ℕ) : Type 0 where
-  pub accepted : m .painting .refusal ≡ 0
+  pub accepted : m .refusal ≡ 0
   pub first : linesIn before ≤ y
   pub last : y < linesIn before + heightOf (m .call)
+
+-- a dot of the next 1,024 lines, to which refusal 9 does not apply
+abbrev pub InReach : ℕ → ℕ → Type 0
+InReach y x = (y ≤ 1023) × (x ≤ 735)
+
+-- One dot of the next 1,024 lines is answered: from every well-formed state and every RAM of full length the direct answer is no
+-- refusal; it is the rules' colour of line y, dot x, with the rules' addresses. It asks nothing of the registers.
+abbrev pub AnsweredDirectly : Type 0
+AnsweredDirectly =
+    (s : State) (ram : List ℕ) (y x e : ℕ)
+    → illFormed (s .scan) ≡ false
+    → length ram ≡ 65536
+    → InReach y x
+    → direct s ram y x e ≡ colour (directColour s ram y x e) (directNames s ram y x)
 
 -- The direct answer is the painted dot: from whatever state and RAM, and whatever calls are made, the painting of line y holds
 -- at dot x the colour of the direct answer, which is no refusal and names the rules' addresses.
@@ -66,12 +90,11 @@ pub record PaintsLine (before : List Made) (m : Made) (y : ℕ) : Type 0 where
 abbrev pub Demand3 : Type 0
 Demand3 =
     (s : State) (ram : List ℕ) (calls : List Call) (before : List Made) (m : Made) (after : List Made) (y x : ℕ)
-    → y ≤ 1023
-    → x ≤ 735
+    → InReach y x
     → run s ram calls ≡ before ++ (m ∷ after)
     → PaintsLine before m y
     → direct s ram y x (byteAt (externalOf (m .call)) (placeOf (linesIn before) y x))
-    ≡ colour (byteAt (m .painting .dots) (placeOf (linesIn before) y x)) (directNames s ram y x)
+    ≡ colour (byteAt (m .dots) (placeOf (linesIn before) y x)) (directNames s ram y x)
 
 -- Demand 3 speaks of every line: each line that a list paints is the line of one accepted painting in it.
 abbrev pub EveryLine : Type 0
@@ -81,10 +104,20 @@ EveryLine =
     → (before : List Made) × (m : Made) × (after : List Made) × (all ≡ before ++ (m ∷ after)) × PaintsLine before m y
 
 -- The direct answer depends on the bytes at the addresses that `dependsOn` lists, and on no others: another RAM of the same
--- length with the same bytes there gives the same answer. "The same answer means all that is returned."
+-- length with the same bytes there gives the same answer.
 abbrev pub Dependence : Type 0
 Dependence =
     (s : State) (ram other : List ℕ) (y x e : ℕ)
     → length other ≡ length ram
     → map (byteAt other) (dependsOn s ram y x) ≡ map (byteAt ram) (dependsOn s ram y x)
     → direct s other y x e ≡ direct s ram y x e
+
+-- "The same answer means all that is returned": what the two calls return is the same.
+abbrev pub SameReturned : Type 0
+SameReturned =
+    (s : State) (ram other : List ℕ) (y x e : ℕ) (given returned : Answer)
+    → length other ≡ length ram
+    → map (byteAt other) (dependsOn s ram y x) ≡ map (byteAt ram) (dependsOn s ram y x)
+    → answered given ≡ direct s ram y x e
+    → answered returned ≡ direct s other y x e
+    → returned ≡ given

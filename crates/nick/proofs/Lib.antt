@@ -1,3 +1,4 @@
 pub mod Bits
 pub mod Modes
 pub mod WellFormed
+pub mod Answers

@@ -109,11 +109,21 @@ endLine count = endWord ++ (TAB ∷ decimal count) ++ (LF ∷ [])
 unfoldable pub listing : Registers → List ℕ → List ℕ
 listing g ram = headerLine g ++ blockLines g ram (blocksListed g ram) ++ endLine (blocksListed g ram)
 
--- "The answer is the listing's length."
-unfoldable pub listAnswer : Registers → List ℕ → List ℕ → Listed
+-- what the call answers: a refusal's number, or a length
+pub data ListAnswered : Type 0 where
+  listRefused : ℕ → ListAnswered
+  listLength : ℕ → ListAnswered
+
+-- the number, or the length, of each case of the answer
+abbrev pub listAnswered : Listed → ListAnswered
+listAnswered (Refused n) = listRefused n
+listAnswered (Length n) = listLength n
+
+-- "The answer is the listing's length." "It uses the registers alone, not the rest of the state."
+unfoldable pub listAnswer : Registers → List ℕ → List ℕ → ListAnswered
 listAnswer g ram out =
     let n = listingRefusal ram (listing g ram) out in
-    pick (eqb n 0) (Length (length (listing g ram))) (Refused n)
+    pick (eqb n 0) (listLength (length (listing g ram))) (listRefused n)
 
 -- "Bytes after the listing keep their content." "A refused listing keeps its output."
 unfoldable pub listOutput : Registers → List ℕ → List ℕ → List ℕ

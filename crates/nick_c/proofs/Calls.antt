@@ -1,10 +1,10 @@
 -- Each call keeps its promise, by the state's length and by what the call below it answered.
-use mathlib.Core.Path.{_≡_, refl, sym, ap, _∙_}
+use mathlib.Core.Path.{_≡_, ap, _∙_}
 use mathlib.Core.Bool.{Bool, true, false}
 use mathlib.Core.List.{List}
 use Prim.Native.Nat.{ℕ, _+_, _*_, _^_, _<_, _≤_}
 use native.Mathlib.Omega.{arith}
-use borrow.Author.Tests.{eq-eqb, ne-eqb, eqb-true}
+use borrow.Author.Tests.{eq-eqb, ne-eqb}
 use lib.Dec.{eqb}
 use lib.ListN.{length, replicate}
 use Rattle.lists.specs.Choice.{pick}
@@ -12,11 +12,10 @@ use Rattle.nick.specs.Registers.{freshState, writeRefusal, written}
 use Rattle.nick.specs.Numbers.{byteAt}
 use Rattle.nick.specs.Refusals.{listingRefusal}
 use Rattle.nick.specs.Direct.{answered, direct}
-use Rattle.nick.specs.Listing.{listing, listAnswer}
+use Rattle.nick.specs.Listing.{listing, listRefused, listLength, listAnswered, listAnswer}
 use Rattle.nick.specs.declared.Registers.{Registers}
 use Rattle.nick.specs.declared.Answer.{Answer}
 use Rattle.nick.specs.declared.Listed.{Listed}
-use Rattle.nick.specs.declared.Listed.the-variants.{Length, Refused}
 use Rattle.nick.specs.declared.State.{State}
 use Rattle.nick.specs.declared.Written.{Written}
 use Rattle.nick.specs.declared.Painted.{Painted}
@@ -25,7 +24,7 @@ use Rattle.listing.specs.Lists.{Lists}
 use Rattle.listing.proofs.Length.{listing-bound}
 use Rattle.encoding.specs.Encoding.{encoded, stateOf}
 use Rattle.packing.specs.Packed.{packedAnswer, packedListed, lengthOf}
-use Rattle.nick_c.specs.Calls.{Freshens, Writes, paintBytes, PaintsBytes, ListsBytes, dotAnswer, portRefusal, kept}
+use Rattle.nick_c.specs.Calls.{Freshens, Writes, paintBytes, PaintsBytes, ListsBytes, packedDot, kept}
 
 -- a refused call leaves the bytes
 pub kept-refused : (n : ℕ) (s : State) (b : List ℕ) → (n ≡ 0 → ⊥) → kept n s b ≡ b
@@ -35,35 +34,21 @@ kept-refused n s b h = rw (ne-eqb n 0 h)
 pub kept-done : (n : ℕ) (s : State) (b after : List ℕ) → n ≡ 0 → after ≡ encoded s → after ≡ kept n s b
 kept-done n s b after h e = rw (eq-eqb n 0 h) e
 
--- a number, or 0 where it is 0
-itself : (n : ℕ) → pick (eqb n 0) 0 n ≡ n
-itself n = go (eqb n 0) (eqb-true n 0)
-  where
-    go : (t : Bool) → (t ≡ true → n ≡ 0) → pick t 0 n ≡ n
-    go true h = sym (h refl)
-    go false h = refl
-
 module _ (b : List ℕ) (other : length b ≡ 32 → ⊥) where
-  pub fresh-refused : Freshens b b 3
+  pub fresh-refused : Freshens b b 20
   fresh-refused = record { answer = rw (ne-eqb (length b) 32 other); state = rw (ne-eqb (length b) 32 other) }
 
-  pub port-refused : (port value n : ℕ) → n ≡ writeRefusal port → (n ≡ 0 → ⊥) → Writes b port value b n
-  unfolding portRefusal
-  port-refused port value n e h = record { answer = rw (← e, ne-eqb n 0 h); state = rw (← e, ne-eqb n 0 h, ne-eqb n 0 h) }
+  pub write-refused : (port value : ℕ) → Writes b port value b 20
+  write-refused port value = record { answer = rw (ne-eqb (length b) 32 other); state = rw (ne-eqb (length b) 32 other) }
 
-  pub length-refused : (port value : ℕ) → 0 ≡ writeRefusal port → Writes b port value b 3
-  unfolding portRefusal
-  length-refused port value e =
-      record { answer = rw (← e, ne-eqb (length b) 32 other); state = rw (← e, ne-eqb (length b) 32 other) }
-
-  pub dot-refused : (ram : List ℕ) (line dot external : ℕ) → 3 ≡ dotAnswer b ram line dot external
-  unfolding dotAnswer
+  pub dot-refused : (ram : List ℕ) (line dot external : ℕ) → 20 ≡ packedDot b ram line dot external
+  unfolding packedDot
   dot-refused ram line dot external = rw (ne-eqb (length b) 32 other)
 
-  pub list-refused : (ram out : List ℕ) → ListsBytes b ram out out 3
+  pub list-refused : (ram out : List ℕ) → ListsBytes b ram out out 20
   list-refused ram out = record { answer = rw (ne-eqb (length b) 32 other); output = rw (ne-eqb (length b) 32 other) }
 
-  pub paint-refused : (ram : List ℕ) (h : ℕ) (dots records external after : List ℕ) → after ≡ replicate (length records) 255 → PaintsBytes b ram h dots records external b dots after 3
+  pub paint-refused : (ram : List ℕ) (h : ℕ) (dots records external after : List ℕ) → after ≡ replicate (length records) 255 → PaintsBytes b ram h dots records external b dots after 20
   unfolding paintBytes
   paint-refused ram h dots records external after e =
       let o = ne-eqb (length b) 32 other in
@@ -75,12 +60,10 @@ module _ (b : List ℕ) (whole : length b ≡ 32) where
       record { answer = rw (eq-eqb (length b) 32 whole) h; state = rw (eq-eqb (length b) 32 whole) (k ∙ ap encoded e) }
 
   pub write-done : (port value : ℕ) (s : State) (w : Written) (after : List ℕ) (r : ℕ) → s ≡ stateOf b → w ≡ record { refusal = writeRefusal port; state = written s port value } → r ≡ w .refusal → after ≡ kept (w .refusal) (w .state) b → Writes b port value after r
-  unfolding portRefusal
   write-done port value s w after r e f h k =
-      let i = itself (writeRefusal port) in
       record {
-        answer = rw (eq-eqb (length b) 32 whole, i) (h ∙ ap (λ (x : Written). x .refusal) f);
-        state = rw (eq-eqb (length b) 32 whole, i, ← e) (k ∙ ap (λ (x : Written). kept (x .refusal) (x .state) b) f);
+        answer = rw (eq-eqb (length b) 32 whole) (h ∙ ap (λ (x : Written). x .refusal) f);
+        state = rw (eq-eqb (length b) 32 whole, ← e) (k ∙ ap (λ (x : Written). kept (x .refusal) (x .state) b) f);
       }
 
   pub paint-done : (ram : List ℕ) (h : ℕ) (dots records external : List ℕ) (s : State) (p : Painted) (after dots₁ records₁ : List ℕ) (r : ℕ) → s ≡ stateOf b → Paints s ram h dots records external dots₁ records₁ p → r ≡ p .refusal → after ≡ kept (p .refusal) (p .state) b → PaintsBytes b ram h dots records external after dots₁ records₁ r
@@ -94,21 +77,21 @@ module _ (b : List ℕ) (whole : length b ≡ 32) where
         records = rw (o, ← e) (f .records);
       }
 
-  pub dot-done : (ram : List ℕ) (line dot external : ℕ) (s : State) (a : Answer) (r : ℕ) → s ≡ stateOf b → answered a ≡ direct s ram line dot external → r ≡ packedAnswer (answered a) → r ≡ dotAnswer b ram line dot external
-  unfolding dotAnswer
+  pub dot-done : (ram : List ℕ) (line dot external : ℕ) (s : State) (a : Answer) (r : ℕ) → s ≡ stateOf b → answered a ≡ direct s ram line dot external → r ≡ packedAnswer (answered a) → r ≡ packedDot b ram line dot external
+  unfolding packedDot
   dot-done ram line dot external s a r e f h = rw (eq-eqb (length b) 32 whole, ← e, ← f) h
 
-  pub list-done : (ram out : List ℕ) (s : State) (l : Listed) (out₁ : List ℕ) (r : ℕ) → s ≡ stateOf b → Lists (s .registers) ram out l out₁ → r ≡ packedListed l → ListsBytes b ram out out₁ r
+  pub list-done : (ram out : List ℕ) (s : State) (l : Listed) (out₁ : List ℕ) (r : ℕ) → s ≡ stateOf b → Lists (s .registers) ram out l out₁ → r ≡ packedListed (listAnswered l) → ListsBytes b ram out out₁ r
   list-done ram out s l out₁ r e f h =
       let o = eq-eqb (length b) 32 whole in
       record { answer = rw (o, ← e, ← (f .answer)) h; output = rw (o, ← e) (f .output) }
 
 -- a listing's length has 32 bits
-pub list-fits : (g : Registers) (ram out : List ℕ) (l : Listed) → g .lpl < 256 → ((i : ℕ) → byteAt ram i < 256) → l ≡ listAnswer g ram out → lengthOf l < 2 ^ 32
+pub list-fits : (g : Registers) (ram out : List ℕ) (l : Listed) → g .lpl < 256 → ((i : ℕ) → byteAt ram i < 256) → listAnswered l ≡ listAnswer g ram out → lengthOf (listAnswered l) < 2 ^ 32
 unfolding listAnswer
 list-fits g ram out l low bytes e =
     rw e (go (eqb (listingRefusal ram (listing g ram) out) 0) (listing-bound g ram low bytes))
   where
-    go : (t : Bool) → length (listing g ram) ≤ 16 + 79 * 4096 + 9 → lengthOf (pick t (Length (length (listing g ram))) (Refused (listingRefusal ram (listing g ram) out))) < 2 ^ 32
+    go : (t : Bool) → length (listing g ram) ≤ 16 + 79 * 4096 + 9 → lengthOf (pick t (listLength (length (listing g ram))) (listRefused (listingRefusal ram (listing g ram) out))) < 2 ^ 32
     go true h = omega arith
     go false h = omega arith

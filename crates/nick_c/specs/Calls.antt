@@ -18,9 +18,9 @@ use Rattle.packing.specs.Packed.{packedAnswer, packedListed}
 abbrev pub isState : List ℕ → Bool
 isState b = eqb (length b) 32
 
--- refusal 3, where a state has another length
-abbrev pub lengthRefusal : List ℕ → ℕ
-lengthRefusal b = pick (isState b) 0 3
+-- what a call answers for these bytes, n being its answer where they are a state: refusal 20 for another length, before all else
+abbrev pub answerFor : List ℕ → ℕ → ℕ
+answerFor b n = pick (isState b) n 20
 
 -- the state's bytes after a call: a refused call leaves them
 abbrev pub kept : ℕ → State → List ℕ → List ℕ
@@ -28,17 +28,13 @@ kept refusal s b = pick (eqb refusal 0) (encoded s) b
 
 -- the fresh state
 pub record Freshens (b₀ b₁ : List ℕ) (r : ℕ) : Type 0 where
-  pub answer : r ≡ lengthRefusal b₀
-  pub state : b₁ ≡ kept (lengthRefusal b₀) freshState b₀
-
--- a register write's refusal: the smallest number that applies
-unfoldable pub portRefusal : List ℕ → ℕ → ℕ
-portRefusal b port = pick (eqb (writeRefusal port) 0) (lengthRefusal b) (writeRefusal port)
+  pub answer : r ≡ answerFor b₀ 0
+  pub state : b₁ ≡ kept (answerFor b₀ 0) freshState b₀
 
 -- a register write
 pub record Writes (b₀ : List ℕ) (port value : ℕ) (b₁ : List ℕ) (r : ℕ) : Type 0 where
-  pub answer : r ≡ portRefusal b₀ port
-  pub state : b₁ ≡ kept (portRefusal b₀ port) (written (stateOf b₀) port value) b₀
+  pub answer : r ≡ answerFor b₀ (writeRefusal port)
+  pub state : b₁ ≡ kept (answerFor b₀ (writeRefusal port)) (written (stateOf b₀) port value) b₀
 
 -- what a painting leaves: the refusal, 0 for none, the state's bytes, and the two buffers
 pub record Bytes : Type 0 where
@@ -49,7 +45,7 @@ pub record Bytes : Type 0 where
 
 -- a painting from a state of another length: the bytes and the dots stay, and every record byte is 255
 abbrev pub withoutState : List ℕ → List ℕ → List ℕ → Bytes
-withoutState b dots records = record { refusal = 3; state = b; dots = dots; records = replicate (length records) 255 }
+withoutState b dots records = record { refusal = 20; state = b; dots = dots; records = replicate (length records) 255 }
 
 -- the rules' painting, the state being given and left as bytes
 abbrev pub withState : List ℕ → List ℕ → ℕ → List ℕ → List ℕ → List ℕ → Bytes
@@ -74,10 +70,10 @@ pub record PaintsBytes (b₀ ram : List ℕ) (h : ℕ) (dots₀ records₀ exter
   pub records : records₁ ≡ paintBytes b₀ ram h dots₀ records₀ external .records
 
 -- the direct answer
-unfoldable pub dotAnswer : List ℕ → List ℕ → ℕ → ℕ → ℕ → ℕ
-dotAnswer b ram line dot external = pick (isState b) (packedAnswer (direct (stateOf b) ram line dot external)) 3
+unfoldable pub packedDot : List ℕ → List ℕ → ℕ → ℕ → ℕ → ℕ
+packedDot b ram line dot external = answerFor b (packedAnswer (direct (stateOf b) ram line dot external))
 
 -- the listing; a state of another length keeps the output
 pub record ListsBytes (b ram out₀ out₁ : List ℕ) (r : ℕ) : Type 0 where
-  pub answer : r ≡ pick (isState b) (packedListed (listAnswer (stateOf b .registers) ram out₀)) 3
+  pub answer : r ≡ answerFor b (packedListed (listAnswer (stateOf b .registers) ram out₀))
   pub output : out₁ ≡ pick (isState b) (listOutput (stateOf b .registers) ram out₀) out₀

@@ -1,9 +1,9 @@
 // The library for C, Rust and Python: the chip's state is 32 bytes, and every call is an exported function that answers a
-// number. include/nick.h declares them. A state of another length than 32 is refusal 3.
+// number. include/nick.h declares them. A state of another length than 32 is refusal 20, before all else.
 ghost use mathlib.Core.Path.{_≡_};
 ghost use lib.ListN.{length};
 ghost use Rattle.nick.specs.Levels.{levelsOf};
-ghost use Rattle.nick_c.specs.Calls.{Freshens, Writes, PaintsBytes, ListsBytes, dotAnswer, kept};
+ghost use Rattle.nick_c.specs.Calls.{Freshens, Writes, PaintsBytes, ListsBytes, packedDot, kept};
 ghost use Rattle.packing.specs.Packed.{packedLevels};
 use encoding::decode_state;
 use encoding::encode_state;
@@ -33,22 +33,18 @@ pub extern "C" fn nick_fresh(state: &mut [u8]) -> u32
     ensures { λ r. ⌜ Freshens (now (state .entry)) (now (state .exit)) r ⌝ }
 {
     if state.len() != STATE_BYTES {
-        return 3;
+        return 20;
     }
     keep(0, nick::fresh(), state)
 }
 
-// Writes one register. Of a state of another length the port's own refusal is told first, its number being smaller.
+// Writes one register.
 #[no_mangle]
 pub extern "C" fn nick_write(state: &mut [u8], port: u32, value: u8) -> u32
     ensures { λ r. ⌜ Writes (now (state .entry)) port value (now (state .exit)) r ⌝ }
 {
     if state.len() != STATE_BYTES {
-        let refusal = nick::write(nick::fresh(), port, value).refusal;
-        if refusal != 0 {
-            return refusal as u32;
-        }
-        return 3;
+        return 20;
     }
     let written = nick::write(decode_state(state), port, value);
     let next = written.state;
@@ -69,7 +65,7 @@ pub extern "C" fn nick_paint(
 {
     if state.len() != STATE_BYTES {
         lists::fill(records, 255);
-        return 3;
+        return 20;
     }
     let painted = painting::paint_lines(decode_state(state), ram, height, dots, records, external);
     let next = painted.state;
@@ -93,10 +89,10 @@ pub extern "C" fn nick_paint_line(
 // The direct answer for a dot of scanline `line` from here, `external` being its external byte, 0 if nothing is connected.
 #[no_mangle]
 pub extern "C" fn nick_dot(state: &[u8], ram: &[u8], line: usize, dot: usize, external: u8) -> u64
-    ensures { λ r. ⌜ r ≡ dotAnswer (now (state .entry)) (now (ram .entry)) line dot external ⌝ }
+    ensures { λ r. ⌜ r ≡ packedDot (now (state .entry)) (now (ram .entry)) line dot external ⌝ }
 {
     if state.len() != STATE_BYTES {
-        return 3;
+        return 20;
     }
     packed_answer(direct::dot(decode_state(state), ram, line, dot, external))
 }
@@ -107,7 +103,7 @@ pub extern "C" fn nick_list(state: &[u8], ram: &[u8], out: &mut [u8]) -> u64
     ensures { λ r. ⌜ ListsBytes (now (state .entry)) (now (ram .entry)) (now (out .entry)) (now (out .exit)) r ⌝ }
 {
     if state.len() != STATE_BYTES {
-        return 3;
+        return 20;
     }
     let decoded = decode_state(state);
     let registers = decoded.registers;

@@ -4,9 +4,8 @@ use mathlib.Core.List.{List}
 use lib.ListN.{length}
 use Rattle.nick.specs.Numbers.{byteAt}
 use Rattle.nick.specs.Direct.{Answered, refused, colour}
+use Rattle.nick.specs.Listing.{ListAnswered, listRefused, listLength}
 use Rattle.nick.specs.declared.Levels.{Levels}
-use Rattle.nick.specs.declared.Listed.{Listed}
-use Rattle.nick.specs.declared.Listed.the-variants.{Length, Refused}
 
 -- bits 16 to 23 how many addresses, 24 to 39 and 40 to 55 the addresses in order, else zeros
 abbrev pub packedAddresses : List ℕ → ℕ
@@ -18,14 +17,14 @@ packedAnswer (refused n) = n
 packedAnswer (colour c named) = 2 ^ 8 * c + packedAddresses named
 
 -- a listing's length; none where it is refused
-abbrev pub lengthOf : Listed → ℕ
-lengthOf (Length n) = n
-lengthOf (Refused n) = 0
+abbrev pub lengthOf : ListAnswered → ℕ
+lengthOf (listRefused n) = 0
+lengthOf (listLength n) = n
 
 -- bits 0 to 31 the refusal, 32 to 63 the length
-abbrev pub packedListed : Listed → ℕ
-packedListed (Length n) = 2 ^ 32 * n
-packedListed (Refused n) = n
+abbrev pub packedListed : ListAnswered → ℕ
+packedListed (listRefused n) = n
+packedListed (listLength n) = 2 ^ 32 * n
 
 -- red + 256 * green + 65,536 * blue
 abbrev pub packedLevels : Levels → ℕ

@@ -2,6 +2,7 @@
 ghost use mathlib.Core.Path.{_≡_};
 ghost use Prim.Native.Nat.{_<_, _^_};
 ghost use Rattle.nick.specs.Direct.{addressesOf, answered};
+ghost use Rattle.nick.specs.Listing.{listAnswered};
 ghost use Rattle.packing.specs.Packed.{packedAddresses, packedAnswer, packedListed, packedLevels, lengthOf};
 use nick::Answer;
 use nick::Levels;
@@ -31,8 +32,8 @@ pub fn packed_answer(answer: Answer) -> u64
 
 // Bits 0 to 31 the refusal, 32 to 63 the length.
 pub fn packed_listed(listed: Listed) -> u64
-    requires { ⌜ lengthOf listed < 2 ^ 32 ⌝ }
-    ensures { λ r. ⌜ r ≡ packedListed listed ⌝ }
+    requires { ⌜ lengthOf (listAnswered listed) < 2 ^ 32 ⌝ }
+    ensures { λ r. ⌜ r ≡ packedListed (listAnswered listed) ⌝ }
 {
     match listed {
         Listed::Length(n) => 4294967296 * (n as u64),

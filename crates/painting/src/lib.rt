@@ -14,11 +14,11 @@ use nick::State;
 use scanline::paint_scanline;
 
 // External input is empty, or one byte for each dot.
-fn external_fits(length: usize, height: usize) -> bool
+fn external_fits(bytes: usize, height: usize) -> bool
     requires { ⌜ height ≤ 1024 ⌝ }
-    ensures { λ r. ⌜ r ≡ eqb length 0 || eqb length (736 * height) ⌝ }
+    ensures { λ r. ⌜ r ≡ eqb bytes 0 || eqb bytes (736 * height) ⌝ }
 {
-    length == 0 || length == 736 * height
+    bytes == 0 || bytes == 736 * height
 }
 
 // The refusal of a painting, 0 for none: the tests in the order of their numbers.

@@ -8,10 +8,10 @@ mul-result : tie.Need-mul-result
 mul-result c = search needs
 
 returns : tie.Need-returns
-returns c = rw (eq-eqb (c .before .args .length) 0 (c .if1 .taken))
+returns c = rw (eq-eqb (c .before .args .bytes) 0 (c .if1 .taken))
 
 returns-2 : tie.Need-returns-2
-returns-2 c = rw (ne-eqb (c .before .args .length) 0 (c .if1 .left))
+returns-2 c = rw (ne-eqb (c .before .args .bytes) 0 (c .if1 .left))
 
 pub external-fits-spec : {M : Type 1} → statement M
 external-fits-spec = tie.close (tie.spec mul-result returns returns-2)
