@@ -14,10 +14,11 @@ use Rattle.lists.specs.Choice.{pick}
 use Rattle.nick.specs.Numbers.{byteAt}
 use Rattle.nick.specs.Scanline.{scanAfter}
 use Rattle.nick.specs.Record.{stateAfter}
-use Rattle.nick.specs.Refusals.{illFormed, directRefusal}
+use Rattle.nick.specs.Refusals.{Formed, directRefusal}
 use Rattle.nick.specs.Painting.{Painting, externalAt, frameDots}
 use Rattle.nick.specs.Direct.{direct, directColour, directNames, colour}
 use Rattle.nick.specs.declared.State.{State}
+use Rattle.nick.proofs.WellFormed.{not-ill-formed}
 use Rattle.claims.specs.Demand3.{Call, oneLine, lines, heightOf, externalOf, paintingOf, Made, madeOf, run, linesOf, linesIn, placeOf, PaintsLine, AnsweredDirectly, Demand3, EveryLine}
 use Rattle.claims.proofs.Scanlines.{scan-add, state-add, registers-kept, scan-of-state}
 use Rattle.claims.proofs.Slots.{own-external}
@@ -32,17 +33,17 @@ call-leaves s ram (lines height dots records external) = paint-leaves s ram heig
 -- refused
 record MadeAfter (s : State) (ram : List ℕ) (b : ℕ) (m : Made) : Type 0 where
   made : m ≡ madeOf (stateAfter ram b s) ram (m .call)
-  formed : m .refusal ≡ 0 → illFormed (s .scan) ≡ false
+  formed : m .refusal ≡ 0 → Formed (s .scan)
 
 -- the state before a call was well-formed, if the one that it returned is
 formed-before :
     (s : State) (ram : List ℕ) (h : ℕ) (external : List ℕ) (p : Painting)
     → Leaves s ram h external p
-    → illFormed (p .state .scan) ≡ false
-    → illFormed (s .scan) ≡ false
+    → Formed (p .state .scan)
+    → Formed (s .scan)
 formed-before s ram h external p l e = go (eqb (p .refusal) 0) refl (l .state)
   where
-    go : (t : Bool) → eqb (p .refusal) 0 ≡ t → p .state ≡ stateAfter ram (pick t h 0) s → illFormed (s .scan) ≡ false
+    go : (t : Bool) → eqb (p .refusal) 0 ≡ t → p .state ≡ stateAfter ram (pick t h 0) s → Formed (s .scan)
     go true accepted same = l .formed (eqb-true (p .refusal) 0 accepted)
     go false refused same = rw same at e
 
@@ -50,7 +51,7 @@ formed-before s ram h external p l e = go (eqb (p .refusal) 0) refl (l .state)
 later :
     (s t : State) (ram : List ℕ) (k b : ℕ) (m : Made)
     → t ≡ stateAfter ram k s
-    → (illFormed (t .scan) ≡ false → illFormed (s .scan) ≡ false)
+    → (Formed (t .scan) → Formed (s .scan))
     → MadeAfter t ram b m
     → MadeAfter s ram (k + b) m
 later s t ram k b m e f r = record {
@@ -108,7 +109,7 @@ demand3 s ram calls before m after y x reach e p =
     rw (r .made, l .dots accepted)
     (frame-direct s ram external b h (y - b) x (omega (arith, p .last, p .first)) (omega (arith, reach .1))
     ∙ ap (λ (n : ℕ). directColour s ram n x (byteAt external place)) line) in
-    answered-directly s ram y x (byteAt external place) (r .formed (p .accepted)) (l .full accepted) reach
+    answered-directly s ram y x (byteAt external place) (not-ill-formed (s .scan) (r .formed (p .accepted))) (l .full accepted) reach
     ∙ ap (λ (k : ℕ). colour k (directNames s ram y x)) (sym dot)
 
 -- a painting that adds a line is accepted

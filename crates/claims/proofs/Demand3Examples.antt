@@ -128,4 +128,4 @@ pub same-answer : direct freshState other 4 32 135 ≡ colour 27 (80 ∷ 771 ∷
 unfolding
     loadedNumber decoded blockAt blockAddresses loaded continued begun modeNumbered fontAddress ended nextScan directNames
     dependsOn
-same-answer = dependence freshState ram other 4 32 135 refl refl ∙ answers .2
+same-answer = dependence freshState ram other 4 32 135 (refl, refl) ∙ answers .2

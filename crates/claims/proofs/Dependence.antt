@@ -313,19 +313,19 @@ module _ (s : State) (ram other : List ℕ) (y x : ℕ) where
 
 pub dependence : Dependence
 unfolding directColour directNames dependsOn
-dependence s ram other y x e long same =
+dependence s ram other y x e agrees =
     let g = s .registers in
     let c = scanAfter g ram y (s .scan) in
     let d = scanAfter g other y (s .scan) in
     let loads = loadedOnTheWay g ram (suc y) (s .scan) in
-    let used = same-first ram other (blockBytesUsed loads) (namedIn ram (begun g ram c) x) same in
-    let named = same-rest ram other (blockBytesUsed loads) (namedIn ram (begun g ram c) x) same in
-    let alike = begun-step ram other g (s .scan) long y (scan-same ram other g (s .scan) long y) used in
+    let used = same-first ram other (blockBytesUsed loads) (namedIn ram (begun g ram c) x) (agrees .1) in
+    let named = same-rest ram other (blockBytesUsed loads) (namedIn ram (begun g ram c) x) (agrees .1) in
+    let alike = begun-step ram other g (s .scan) (agrees .0) y (scan-same ram other g (s .scan) (agrees .0) y) used in
     same-answer s ram other y x e
-    (same-refusal s ram other y x long)
+    (same-refusal s ram other y x (agrees .0))
     (same-colour ram other g c d alike x named e)
     (same-names ram other g c d alike x named)
 
 pub same-returned : SameReturned
-same-returned s ram other y x e given returned long same a b =
-    answered-determines returned given (b ∙ (dependence s ram other y x e long same ∙ sym a))
+same-returned s ram other y x e given returned agrees a b =
+    answered-determines returned given (b ∙ (dependence s ram other y x e agrees ∙ sym a))

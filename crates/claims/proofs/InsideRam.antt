@@ -11,14 +11,14 @@ use Rattle.nick.specs.Registers.{zeroPointers, zeroBlock, writtenRegisters, wri
 use Rattle.nick.specs.Blocks.{loads, loadedNumber, decoded, blockAt, loaded, continued, begun}
 use Rattle.nick.specs.Slots.{modeNumbered}
 use Rattle.nick.specs.Scanline.{ended, nextScan, scanAfter}
-use Rattle.nick.specs.Refusals.{illFormed}
+use Rattle.nick.specs.Refusals.{illFormed, Formed}
 use Rattle.nick.specs.Direct.{loadOf, loadedOnTheWay}
 use Rattle.nick.specs.Examples.{lastBase, lastBlock}
 use Rattle.nick.specs.declared.Registers.{Registers}
 use Rattle.nick.specs.declared.Scan.{Scan}
 use Rattle.nick.specs.declared.State.{State}
+use Rattle.nick.proofs.WellFormed.{formed, number-below, formed-after}
 use Rattle.claims.specs.InsideRam.{runsPastEnd, anyPastEnd, pastEnd, NeverPastEnd}
-use Rattle.claims.proofs.WellFormed.{Formed, formed, number-most, formed-after}
 
 any-append : (l r : List ℕ) → anyPastEnd (l ++ r) ≡ anyPastEnd l || anyPastEnd r
 any-append [] r = refl
@@ -29,7 +29,7 @@ load-inside : (g : Registers) (c : Scan) → g .lpl < 256 → Formed c → anyPa
 load-inside g c h f = go (loads c)
   where
     go : (t : Bool) → anyPastEnd (pick t (loadedNumber g c ∷ []) []) ≡ false
-    go true = rw (le-ltb 65535 (16 * loadedNumber g c + 15) (omega (arith, number-most g c h (f .number))))
+    go true = rw (le-ltb 65535 (16 * loadedNumber g c + 15) (omega (arith, number-below g c h (f .number))))
     go false = refl
 
 inside : (g : Registers) (ram : List ℕ) (n : ℕ) (c : Scan) → g .lpl < 256 → Formed c → anyPastEnd (loadedOnTheWay g ram n c) ≡ false

@@ -2,7 +2,6 @@ pub mod Rows
 pub mod Scanlines
 pub mod Slots
 pub mod Frames
-pub mod Refusals
 pub mod Paintings
 pub mod Records
 pub mod WellFormed

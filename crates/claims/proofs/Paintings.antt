@@ -9,17 +9,17 @@ use lib.ListN.{length}
 use borrow.Author.Tests.{eqb-true, ne-eqb}
 use Rattle.lists.specs.Choice.{pick}
 use Rattle.nick.specs.Record.{stateAfter}
-use Rattle.nick.specs.Refusals.{illFormed, paintingRefusal}
+use Rattle.nick.specs.Refusals.{Formed, paintingRefusal}
 use Rattle.nick.specs.Painting.{Painting, frameDots, painted, refusedPainting, paint}
 use Rattle.nick.specs.declared.State.{State}
-use Rattle.claims.proofs.Refusals.{accepted-formed, accepted-full}
+use Rattle.nick.proofs.Refusals.{accepted}
 
 -- what p, a painting of h lines from s, leaves: the state after the lines that it paints, none where it is refused; where it is
 -- accepted, their dots, the state being well-formed and RAM whole
 pub record Leaves (s : State) (ram : List ℕ) (h : ℕ) (external : List ℕ) (p : Painting) : Type 0 where
   pub state : p .state ≡ stateAfter ram (pick (eqb (p .refusal) 0) h 0) s
   pub dots : p .refusal ≡ 0 → p .dots ≡ frameDots ram external h s
-  pub formed : p .refusal ≡ 0 → illFormed (s .scan) ≡ false
+  pub formed : p .refusal ≡ 0 → Formed (s .scan)
   pub full : p .refusal ≡ 0 → length ram ≡ 65536
 
 module _ (s : State) (ram : List ℕ) (h : ℕ) (dots records external : List ℕ) where
@@ -51,8 +51,8 @@ module _ (s : State) (ram : List ℕ) (h : ℕ) (dots records external : List �
   accepted-leaves e = record {
     state = refl;
     dots = λ _. refl;
-    formed = λ _. accepted-formed s ram h dots records external e;
-    full = λ _. accepted-full s ram h dots records external e;
+    formed = λ _. accepted s ram h dots records external e .formed;
+    full = λ _. accepted s ram h dots records external e .full;
   }
 
   refused-leaves : (n : ℕ) → (n ≡ 0 → ⊥) → Leaves s ram h external (refusedPainting n s dots records)

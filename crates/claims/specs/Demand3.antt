@@ -103,21 +103,23 @@ EveryLine =
     → y < linesIn all
     → (before : List Made) × (m : Made) × (after : List Made) × (all ≡ before ++ (m ∷ after)) × PaintsLine before m y
 
--- The direct answer depends on the bytes at the addresses that `dependsOn` lists, and on no others: another RAM of the same
--- length with the same bytes there gives the same answer.
+-- another RAM of the same length, with the same bytes at the addresses that `dependsOn` lists
+abbrev pub AgreesFor : State → List ℕ → List ℕ → ℕ → ℕ → Type 0
+AgreesFor s ram other y x =
+    (length other ≡ length ram) × (map (byteAt other) (dependsOn s ram y x) ≡ map (byteAt ram) (dependsOn s ram y x))
+
+-- The direct answer depends on those bytes and on no others: another RAM that agrees on them gives the same answer.
 abbrev pub Dependence : Type 0
 Dependence =
     (s : State) (ram other : List ℕ) (y x e : ℕ)
-    → length other ≡ length ram
-    → map (byteAt other) (dependsOn s ram y x) ≡ map (byteAt ram) (dependsOn s ram y x)
+    → AgreesFor s ram other y x
     → direct s other y x e ≡ direct s ram y x e
 
 -- "The same answer means all that is returned": what the two calls return is the same.
 abbrev pub SameReturned : Type 0
 SameReturned =
     (s : State) (ram other : List ℕ) (y x e : ℕ) (given returned : Answer)
-    → length other ≡ length ram
-    → map (byteAt other) (dependsOn s ram y x) ≡ map (byteAt ram) (dependsOn s ram y x)
+    → AgreesFor s ram other y x
     → answered given ≡ direct s ram y x e
     → answered returned ≡ direct s other y x e
     → returned ≡ given

@@ -6,7 +6,7 @@ ghost use Rattle.nick.specs.Blocks.{begun};
 ghost use Rattle.nick.specs.Slots.{ATTR, CH, modeOf};
 ghost use Rattle.nick.specs.Scanline.{scanAfter};
 ghost use Rattle.nick.specs.Direct.{answered, direct};
-ghost use Rattle.walk.specs.Walks.{Formed};
+ghost use Rattle.nick.specs.Refusals.{Formed, badPlace, directRefusal};
 ghost use Rattle.direct.specs.Answers.{
   unfetchedAnswer,
   cellAnswer,
@@ -158,27 +158,38 @@ fn begin_line(registers: Registers, ram: &[u8], scan: Scan, line: usize) -> Scan
     blocks::begin(registers, ram, reached)
 }
 
+// 9: a line that is not one of the next 1,024, or a dot that no line has.
+fn is_bad_place(line: usize, dot: usize) -> bool
+    ensures { λ r. ⌜ r ≡ badPlace line dot ⌝ }
+{
+    1023 < line || 735 < dot
+}
+
+// The refusal of a direct answer, 0 for none: the tests in the order of their numbers.
+fn refusal(state: State, ram: &[u8], line: usize, dot: usize) -> u8
+    ensures { λ r. ⌜ r ≡ directRefusal state (now (ram .entry)) line dot ⌝ }
+{
+    if refusals::is_ill_formed(state.scan) {
+        return 3;
+    }
+    if refusals::is_not_full(ram) {
+        return 4;
+    }
+    if is_bad_place(line, dot) {
+        return 9;
+    }
+    0
+}
+
 // The direct answer for a dot of scanline `line` from here, `external` being its external byte, 0 if nothing is connected.
 pub fn dot(state: State, ram: &[u8], line: usize, dot: usize, external: u8) -> Answer
     ensures { λ r. ⌜ answered r ≡ direct state (now (ram .entry)) line dot external ⌝ }
 {
-    let scan = state.scan;
-    if 256 < scan.left {
-        return Answer::Refused(3);
-    }
-    if 4095 < scan.number {
-        return Answer::Refused(3);
-    }
-    if ram.len() != 65536 {
-        return Answer::Refused(4);
-    }
-    if 1023 < line {
-        return Answer::Refused(9);
-    }
-    if 735 < dot {
-        return Answer::Refused(9);
+    let refusal = refusal(state, ram, line, dot);
+    if refusal != 0 {
+        return Answer::Refused(refusal);
     }
     let registers = state.registers;
-    let begun = begin_line(registers, ram, scan, line);
+    let begun = begin_line(registers, ram, state.scan, line);
     begun_dot(registers, ram, begun, dot, external)
 }

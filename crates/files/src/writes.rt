@@ -1,8 +1,6 @@
 // Register writes from a file: pairs of bytes, a port and a value.
 ghost use mathlib.Core.Path.{_≡_};
-ghost use Prim.Native.Nat.{_/_};
-ghost use lib.ListN.{length};
-ghost use Rattle.files.specs.Writes.{given as Writes·given, writtenNext, writtenAll};
+ghost use Rattle.files.specs.Writes.{given as Writes·given, writtenNext, writtenBy};
 use nick::Written;
 
 // The refusal that is given where two calls gave these: the smaller number, 0 standing for none.
@@ -32,7 +30,7 @@ fn write_next(written: Written, port: u8, value: u8) -> Written
 
 // Applies the writes in order, from the fresh state, and gives the smallest refusal of them. An odd byte is left out.
 pub fn apply_writes(bytes: &[u8]) -> Written
-    ensures { λ r. ⌜ r ≡ writtenAll (now (bytes .entry)) (length (now (bytes .entry)) / 2) ⌝ }
+    ensures { λ r. ⌜ r ≡ writtenBy (now (bytes .entry)) ⌝ }
 {
     let state = nick::fresh();
     let mut written = Written { refusal: 0, state };

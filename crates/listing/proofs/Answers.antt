@@ -1,13 +1,14 @@
 -- The listing's three answers: refusal 4, refusal 10, and the listing with its length.
 use mathlib.Core.Path.{_≡_, refl, _∙_}
+use mathlib.Core.Bool.{true, false}
 use mathlib.Core.List.{List, [], _∷_}
 use Prim.Native.Nat.{ℕ, suc, _+_, _<_, _≤_}
 use native.Mathlib.Nat.{zero-add}
 use native.Mathlib.Omega.{arith}
-use borrow.Author.Tests.{eq-eqb, ne-eqb, lt-ltb, le-ltb}
+use borrow.Author.Tests.{lt-ltb, le-ltb}
 use lib.ListN.{length}
 use lib.Seq.{sets, sets-eq}
-use Rattle.nick.specs.Refusals.{listingRefusal}
+use Rattle.nick.specs.Refusals.{notFull, listingRefusal}
 use Rattle.nick.specs.Listing.{listing, listAnswer, listOutput}
 use Rattle.nick.specs.declared.Registers.{Registers}
 use Rattle.nick.specs.declared.Listed.the-variants.{Length, Refused}
@@ -23,18 +24,18 @@ pub wrote-nothing : {text left : List ℕ} {at end : ℕ} → Wrote [] at text e
 wrote-nothing {text} {left} {at} w = w .bytes ∙ sets-nothing at text
 
 module _ (g : Registers) (ram out : List ℕ) where
-  pub refused-ram : (length ram ≡ 65536 → ⊥) → Lists g ram out (Refused 4) out
+  pub refused-ram : notFull ram ≡ true → Lists g ram out (Refused 4) out
   unfolding listingRefusal listAnswer listOutput
-  refused-ram h = record { answer = rw (ne-eqb (length ram) 65536 h); output = rw (ne-eqb (length ram) 65536 h) }
+  refused-ram h = record { answer = rw h; output = rw h }
 
-  module _ (full : length ram ≡ 65536) where
+  module _ (full : notFull ram ≡ false) where
     pub refused-short : {n : ℕ} → n ≡ 0 + length (listing g ram) → length out < n → Lists g ram out (Refused 10) out
     unfolding listingRefusal listAnswer listOutput
     refused-short {n} e h =
         let short = lt-ltb (length out) (length (listing g ram)) (omega arith) in
         record {
-          answer = rw (eq-eqb (length ram) 65536 full, short);
-          output = rw (eq-eqb (length ram) 65536 full, short);
+          answer = rw (full, short);
+          output = rw (full, short);
         }
 
     pub listed : {n end : ℕ} {left : List ℕ} → n ≡ 0 + length (listing g ram) → n ≤ length out → Wrote out 0 (listing g ram) end left → Lists g ram out (Length n) left
@@ -43,8 +44,8 @@ module _ (g : Registers) (ram out : List ℕ) where
         let text = listing g ram in
         let k : n ≡ length text = omega arith in
         record {
-          answer = rw (eq-eqb (length ram) 65536 full, le-ltb (length out) (length text) (omega arith), k);
+          answer = rw (full, le-ltb (length out) (length text) (omega arith), k);
           output =
-              rw (eq-eqb (length ram) 65536 full, le-ltb (length out) (length text) (omega arith))
+              rw (full, le-ltb (length out) (length text) (omega arith))
               (w .bytes ∙ rw (zero-add (length text)) at (sets-eq text out 0 (omega arith)));
         }

@@ -105,7 +105,7 @@ fn put_listing(out: &mut [u8], registers: Registers, ram: &[u8]) -> usize
 pub fn list(registers: Registers, ram: &[u8], out: &mut [u8]) -> Listed
     ensures { λ r. ⌜ Lists registers (now (ram .entry)) (now (out .entry)) r (now (out .exit)) ⌝ }
 {
-    if ram.len() != 65536 {
+    if refusals::is_not_full(ram) {
         return Listed::Refused(4);
     }
     let room = out.len();

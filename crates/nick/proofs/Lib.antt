@@ -1,4 +1,5 @@
 pub mod Bits
 pub mod Modes
 pub mod WellFormed
+pub mod Refusals
 pub mod Answers

@@ -1,7 +1,8 @@
 -- Document 01, "Buffers and refusal numbers": the tests of the table. A call tests its numbers in rising order, so that
 -- "the smallest number is given"; 0 stands for no refusal. Number 11 is given by nothing (document 02, item 9): claims
 -- specs/InsideRam has what it said, and why it cannot be met.
-use Prim.Native.Nat.{ℕ, _*_}
+use Prim.Native.Nat.{ℕ, _*_, _<_, _≤_}
+use mathlib.Core.Path.{_≡_}
 use mathlib.Core.Bool.{Bool, not, _||_}
 use mathlib.Core.List.{List}
 use lib.Dec.{eqb, ltb}
@@ -14,6 +15,11 @@ use Rattle.nick.specs.declared.State.{State}
 -- 3: "state: scanlines left over 256, or block number over 4,095"
 abbrev pub illFormed : Scan → Bool
 illFormed c = ltb 256 (c .left) || ltb 4095 (c .number)
+
+-- "A state is well-formed if refusal 3 doesn't apply": the bounds that it then has
+pub record Formed (c : Scan) : Type 0 where
+  pub left : c .left ≤ 256
+  pub number : c .number < 4096
 
 -- 4: "RAM not 65,536 bytes"
 abbrev pub notFull : List ℕ → Bool
@@ -48,6 +54,14 @@ paintingRefusal s ram h dots records external =
     (pick (badDots h dots) 6
     (pick (badRecords h records) 7
     (pick (badExternal h external) 8 0)))))
+
+-- what the tests say of a painting that is not refused
+pub record Accepted (s : State) (ram : List ℕ) (h : ℕ) (dots records : List ℕ) : Type 0 where
+  pub formed : Formed (s .scan)
+  pub full : length ram ≡ 65536
+  pub height : h ≤ 1024
+  pub places : length dots ≡ 736 * h
+  pub bytes : length records ≡ recordBytes * h
 
 -- "3, 4 .. for painting and the direct answer; .. 9 for the direct answer"
 unfoldable pub directRefusal : State → List ℕ → ℕ → ℕ → ℕ

@@ -1,54 +1,37 @@
--- The direct answer after the writes: a refused write decides it, and an answer with a colour has RAM of 65,536 bytes.
-use mathlib.Core.Path.{_≡_, refl}
+-- An answer with a colour has RAM of 65,536 bytes: neither a write nor the answer is refused.
+use mathlib.Core.Path.{_≡_, refl, sym, _∙_}
 use mathlib.Core.Bool.{Bool, true, false}
 use mathlib.Core.List.{List}
-use Prim.Native.Nat.{ℕ, _/_}
+use Prim.Native.Nat.{ℕ}
 use native.Mathlib.Omega.{arith}
 use lib.Dec.{eqb}
 use lib.ListN.{length}
-use borrow.Author.Tests.{eqb-true, not-false, eq-eqb, ne-eqb}
+use borrow.Author.Tests.{eqb-true}
 use Rattle.lists.specs.Choice.{pick}
-use Rattle.lists.proofs.Tests.{not-picked, rest-zero}
-use Rattle.nick.specs.Refusals.{illFormed, notFull, directRefusal}
+use Rattle.nick.specs.Refusals.{directRefusal}
 use Rattle.nick.specs.Direct.{Answered, colour, refused, directColour, directNames, direct}
 use Rattle.nick.specs.declared.State.{State}
-use Rattle.nick.specs.declared.Written.{Written}
-use Rattle.files.specs.Writes.{writtenAll}
-use Rattle.nickdot.specs.Answers.{answerFrom, answerAfter}
+use Rattle.nick.proofs.Refusals.{answerable}
+use Rattle.files.specs.Writes.{writtenBy, afterWrites}
+use Rattle.nickdot.specs.Answers.{answerAfter}
 
-coloured : (n c d : ℕ) (ns ms : List ℕ) → colour c ns ≡ pick (eqb n 0) (colour d ms) (refused n) → n ≡ 0
-coloured n c d ns ms e = go (eqb n 0) refl e
+-- a colour is answered only where the number is 0, and is then the other answer
+coloured : (n c : ℕ) (ns : List ℕ) (a : Answered) → colour c ns ≡ pick (eqb n 0) a (refused n) → (n ≡ 0) × (colour c ns ≡ a)
+coloured n c ns a e = go (eqb n 0) refl e
   where
-    go : (t : Bool) → eqb n 0 ≡ t → colour c ns ≡ pick t (colour d ms) (refused n) → n ≡ 0
-    go true h l = eqb-true n 0 h
+    go : (t : Bool) → eqb n 0 ≡ t → colour c ns ≡ pick t a (refused n) → (n ≡ 0) × (colour c ns ≡ a)
+    go true h l = (eqb-true n 0 h, l)
     go false h l = let z : _≡_ {A = ℕ} 0 1 = cc in absurd (omega arith)
 
 colour-full : (s : State) (ram : List ℕ) (y x e c : ℕ) (ns : List ℕ) → colour c ns ≡ direct s ram y x e → length ram ≡ 65536
-unfolding direct directRefusal
+unfolding direct
 colour-full s ram y x e c ns h =
-    let accepted = coloured (directRefusal s ram y x) c (directColour s ram y x e) ns (directNames s ram y x) h in
-    eqb-true (length ram) 65536
-    (not-false (eqb (length ram) 65536) (not-picked (notFull ram) 3 _ (rest-zero (illFormed (s .scan)) 2 _ accepted)))
+    let none = coloured (directRefusal s ram y x) c ns (colour (directColour s ram y x e) (directNames s ram y x)) h .0 in
+    answerable s ram y x none .full
 
--- an answer with a colour after the writes is the rules' answer
-not-refused : (w : Written) (ram : List ℕ) (y x e c : ℕ) (ns : List ℕ) → colour c ns ≡ answerFrom w ram y x e → colour c ns ≡ direct (w .state) ram y x e
-not-refused w ram y x e c ns h = go (eqb (w .refusal) 0) h
-  where
-    go : (t : Bool) → colour c ns ≡ pick t (direct (w .state) ram y x e) (refused (w .refusal)) → colour c ns ≡ direct (w .state) ram y x e
-    go true l = l
-    go false l = let z : _≡_ {A = ℕ} 0 1 = cc in absurd (omega arith)
-
-module _ (writes ram : List ℕ) (y x e : ℕ) where
-  pub full-after : (c : ℕ) (ns : List ℕ) → colour c ns ≡ answerAfter writes ram y x e → length ram ≡ 65536
-  unfolding answerAfter
-  full-after c ns h =
-      let w = writtenAll writes (length writes / 2) in
-      colour-full (w .state) ram y x e c ns (not-refused w ram y x e c ns h)
-
-  pub write-refused : (w : Written) → w ≡ writtenAll writes (length writes / 2) → (w .refusal ≡ 0 → ⊥) → refused (w .refusal) ≡ answerAfter writes ram y x e
-  unfolding answerAfter
-  write-refused w h n = rw (← h, ne-eqb (w .refusal) 0 n)
-
-  pub writes-accepted : (w : Written) (r : Answered) → w ≡ writtenAll writes (length writes / 2) → w .refusal ≡ 0 → r ≡ direct (w .state) ram y x e → r ≡ answerAfter writes ram y x e
-  unfolding answerAfter
-  writes-accepted w r h n a = rw (← h, eq-eqb (w .refusal) 0 n) a
+pub full-after :
+    (writes ram : List ℕ) (y x e c : ℕ) (ns : List ℕ) → colour c ns ≡ answerAfter writes ram y x e → length ram ≡ 65536
+unfolding afterWrites
+full-after writes ram y x e c ns h =
+    let w = writtenBy writes in
+    colour-full (w .state) ram y x e c ns (coloured (w .refusal) c ns (direct (w .state) ram y x e) h .1)

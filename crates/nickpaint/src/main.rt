@@ -6,15 +6,13 @@ ghost use mathlib.Core.Path.{_≡_};
 ghost use Prim.Native.Nat.{_*_, _≤_};
 ghost use lib.ListN.{length};
 ghost use Rattle.nick.specs.Sizes.{recordBytes};
-ghost use Rattle.lines.specs.Ready.{Ready};
 ghost use Rattle.lists.specs.Choice.{pick};
 ghost use Rattle.nickpaint.specs.Arguments.{linesStamped, stamps};
+ghost use Rattle.nickpaint.specs.Paintings.{PaintsAfter};
 use files::Number;
 use libc::STDOUT_FILENO;
-use lines::paint_by_line;
-use lines::refusal;
+use lists::smaller;
 use nick::RECORD_BYTES;
-use nick::State;
 
 // The arguments after RAM and WRITES.
 const HEIGHT: usize = 3;
@@ -104,32 +102,26 @@ fn write_painted(height: usize, dots: &[u8], records: &mut [u8])
     print_painted(height);
 }
 
-// Paints in memory, then writes the files.
-fn paint_and_write(
-    state: State,
+// Paints from the state that the writes leave, and answers a write's refusal, or the painting's.
+fn paint(
+    writes: &[u8],
     ram: &[u8],
     height: usize,
     dots: &mut [u8],
     records: &mut [u8],
     external: &[u8],
-)
-    requires { ⌜ (height ≤ 1024) × (length (now dots) ≡ 753664) × (length (now records) ≡ 262144) ⌝ }
-    requires { ⌜ Ready state (now ram) (736 * height) (now external) ⌝ }
+) -> u8
+    ensures { λ r. ⌜ PaintsAfter (now (writes .entry)) (now (ram .entry)) height (now (dots .entry)) (now (records .entry)) (now (external .entry)) (now (dots .exit)) (now (records .exit)) r ⌝ }
 {
-    let dots_end = 736 * height;
-    let records_end = RECORD_BYTES * height;
-    paint_by_line(
-        state,
-        ram,
-        height,
-        &mut dots[0..dots_end],
-        &mut records[0..records_end],
-        external,
-    );
-    write_painted(height, &dots[0..dots_end], &mut records[0..records_end]);
+    let written = files::apply_writes(writes);
+    if written.refusal != 0 {
+        return written.refusal;
+    }
+    let painted = painting::paint_lines(written.state, ram, height, dots, records, external);
+    painted.refusal
 }
 
-// Paints what the files hold, or prints the refusal.
+// Paints what the files hold and writes it, or prints the refusal. A height over 1,024 is refused before its buffers count.
 fn paint_files(
     ram: &[u8],
     writes: &[u8],
@@ -140,13 +132,22 @@ fn paint_files(
 )
     requires { ⌜ (length (now dots) ≡ 753664) × (length (now records) ≡ 262144) ⌝ }
 {
-    let written = files::apply_writes(writes);
-    let refused = refusal(written.refusal, ram, height, external);
+    let lines = smaller(height, 1024);
+    let dots_end = 736 * lines;
+    let records_end = RECORD_BYTES * lines;
+    let refused = paint(
+        writes,
+        ram,
+        height,
+        &mut dots[0..dots_end],
+        &mut records[0..records_end],
+        external,
+    );
     if refused != 0 {
         files::print_refusal(refused);
         return;
     }
-    paint_and_write(written.state, ram, height, dots, records, external);
+    write_painted(lines, &dots[0..dots_end], &mut records[0..records_end]);
 }
 
 // Reads EXTERNAL and paints.

@@ -1,32 +1,21 @@
--- Laws on the lines of a frame: one line more, all lines, and what an accepted painting has.
+-- Laws on the lines of a frame: one line more, all lines, and what a painting leaves by its refusal.
 use mathlib.Core.Path.{_≡_, sym, ap, _∙_}
 use mathlib.Core.List.{List, _++_}
 use Prim.Native.Nat.{ℕ, suc, _+_, _*_, _≤_, _<_}
 use native.Mathlib.Numerals.{add-one}
 use native.Mathlib.Omega.{arith}
-use lib.Dec.{eqb, ltb}
 use lib.ListN.{length, take, drop, replicate}
-use borrow.Author.Tests.{ltb-false, eqb-true, not-false}
-use Rattle.lists.proofs.Tests.{or-first, or-rest, not-picked, rest-zero}
 use Rattle.lists.proofs.Laws.{lent, front-all}
 use Rattle.nick.specs.Sizes.{recordBytes}
 use Rattle.nick.specs.Scanline.{lineDots}
 use Rattle.nick.specs.Record.{lineRecord, nextState, stateAfter}
-use Rattle.nick.specs.Refusals.{illFormed, notFull, badHeight, badDots, badRecords, paintingRefusal}
+use Rattle.nick.specs.Refusals.{Formed, paintingRefusal}
 use Rattle.nick.specs.Painting.{externalAt, frameDots, frameRecords, painted, refusedPainting}
 use Rattle.nick.specs.declared.State.{State}
-use Rattle.nick.proofs.WellFormed.{next-number, next-left}
 use Rattle.claims.proofs.Scanlines.{registers-kept}
 use Rattle.claims.proofs.Frames.{length-dots, length-records}
-use Rattle.claims.proofs.Refusals.{accepted-formed, accepted-full}
 use Rattle.claims.proofs.Paintings.{accepted-is, refused-is}
-use Rattle.painting.specs.Frames.{Accepted, NextLine, Frame, Paints}
-
--- the state after a scanline is well-formed
-pub next-formed : (ram : List ℕ) (s : State) → s .registers .lpl < 256 → s .scan .number < 4096 → s .scan .left ≤ 256
-    → (nextState ram s .scan .number < 4096) × (nextState ram s .scan .left ≤ 256)
-unfolding nextState
-next-formed ram s h n l = (next-number (s .registers) ram (s .scan) h n, next-left (s .registers) ram (s .scan) l)
+use Rattle.painting.specs.Frames.{NextLine, Frame, Paints}
 
 -- what a loop over the lines keeps: after y of h lines from s, these are painted, and the rest of both buffers is as it was
 pub record Passed (s : State) (ram external : List ℕ) (h : ℕ) (dots₀ records₀ : List ℕ) (y : ℕ) (dots₁ records₁ : List ℕ) (t : State) : Type 0 where
@@ -36,8 +25,7 @@ pub record Passed (s : State) (ram external : List ℕ) (h : ℕ) (dots₀ recor
   pub state : t ≡ stateAfter ram y s
   pub dots : dots₁ ≡ frameDots ram external y s ++ drop (736 * y) dots₀
   pub records : records₁ ≡ frameRecords ram y s ++ drop (recordBytes * y) records₀
-  pub number : t .scan .number < 4096
-  pub left : t .scan .left ≤ 256
+  pub formed : Formed (t .scan)
 
 module _ (s : State) (ram external : List ℕ) (h : ℕ) (dots₀ records₀ : List ℕ) where
   module _ {y : ℕ} {dots₁ records₁ : List ℕ} {t : State} (p : Passed s ram external h dots₀ records₀ y dots₁ records₁ t) where
@@ -74,8 +62,7 @@ module _ (s : State) (ram external : List ℕ) (h : ℕ) (dots₀ records₀ : L
       state = e .state ∙ ap (nextState ram) (p .state);
       dots = e .dots ∙ dots-more;
       records = e .records ∙ records-more;
-      number = e .number;
-      left = e .left;
+      formed = e .formed;
     })
 
     -- all lines
@@ -87,29 +74,6 @@ module _ (s : State) (ram external : List ℕ) (h : ℕ) (dots₀ records₀ : L
           records = p .records ∙ front-all (frameRecords ram y s) records₀ (recordBytes * y) (omega (arith, all));
           state = p .state;
         })
-
--- what the refusal table says of a painting that is not refused
-pub accepted-facts : (s : State) (ram : List ℕ) (h : ℕ) (dots records external : List ℕ)
-    → paintingRefusal s ram h dots records external ≡ 0
-    → Accepted s ram h dots records
-unfolding paintingRefusal
-accepted-facts s ram h dots records external e =
-    let e₅ = rest-zero (notFull ram) 3 _ (rest-zero (illFormed (s .scan)) 2 _ e) in
-    let e₆ = rest-zero (badHeight h) 4 _ e₅ in
-    let e₇ = rest-zero (badDots h dots) 5 _ e₆ in
-    let formed = accepted-formed s ram h dots records external e in
-    let height = not-picked (badHeight h) 4 _ e₅ in
-    let left = ltb-false 256 (s .scan .left) (or-first (ltb 256 (s .scan .left)) (ltb 4095 (s .scan .number)) formed) in
-    let number = ltb-false 4095 (s .scan .number) (or-rest (ltb 256 (s .scan .left)) (ltb 4095 (s .scan .number)) formed) in
-    let most = ltb-false 1024 h (or-rest (eqb h 0) (ltb 1024 h) height) in
-    record {
-      number = omega arith;
-      left = left;
-      full = accepted-full s ram h dots records external e;
-      height = most;
-      places = eqb-true (length dots) (736 * h) (not-false (eqb (length dots) (736 * h)) (not-picked (badDots h dots) 5 _ e₆));
-      bytes = eqb-true (length records) (recordBytes * h) (not-false (eqb (length records) (recordBytes * h)) (not-picked (badRecords h records) 6 _ e₇));
-    }
 
 module _ (s : State) (ram : List ℕ) (h : ℕ) (dots records external : List ℕ) (n : ℕ)
     (given : n ≡ paintingRefusal s ram h dots records external) where

@@ -1,23 +1,15 @@
 -- What the painting of a frame and its lines answer, as equations with the rules.
-use Prim.Native.Nat.{ℕ, _*_, _≤_, _<_}
+use Prim.Native.Nat.{ℕ, _*_}
 use mathlib.Core.Path.{_≡_}
 use mathlib.Core.List.{List, _++_}
-use lib.ListN.{length, take, drop}
+use lib.ListN.{take, drop}
 use Rattle.nick.specs.Sizes.{recordBytes}
 use Rattle.nick.specs.Scanline.{lineDots}
 use Rattle.nick.specs.Record.{lineRecord, nextState, stateAfter}
+use Rattle.nick.specs.Refusals.{Formed}
 use Rattle.nick.specs.Painting.{externalAt, frameDots, frameRecords, paint}
 use Rattle.nick.specs.declared.Painted.{Painted}
 use Rattle.nick.specs.declared.State.{State}
-
--- what holds of a painting that is not refused
-pub record Accepted (s : State) (ram : List ℕ) (h : ℕ) (dots records : List ℕ) : Type 0 where
-  pub number : s .scan .number < 4096
-  pub left : s .scan .left ≤ 256
-  pub full : length ram ≡ 65536
-  pub height : h ≤ 1024
-  pub places : length dots ≡ 736 * h
-  pub bytes : length records ≡ recordBytes * h
 
 -- line y painted into its parts of the buffers
 pub record NextLine (s : State) (ram : List ℕ) (y : ℕ) (external dots₀ dots₁ records₀ records₁ : List ℕ) (r : State) : Type 0 where
@@ -27,8 +19,7 @@ pub record NextLine (s : State) (ram : List ℕ) (y : ℕ) (external dots₀ dot
       ++ (lineDots (s .registers) ram (s .scan) (externalAt external y) ++ drop 736 (drop (736 * y) dots₀))
   pub records : records₁ ≡ take (recordBytes * y) records₀ ++ (lineRecord ram s ++ drop recordBytes (drop (recordBytes * y) records₀))
   pub state : r ≡ nextState ram s
-  pub number : r .scan .number < 4096
-  pub left : r .scan .left ≤ 256
+  pub formed : Formed (r .scan)
 
 -- all lines of a frame painted
 pub record Frame (s : State) (ram : List ℕ) (h : ℕ) (external dots₁ records₁ : List ℕ) (r : State) : Type 0 where

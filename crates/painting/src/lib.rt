@@ -4,22 +4,18 @@ ghost use mathlib.Core.Path.{_≡_};
 ghost use Prim.Native.Nat.{_+_, _*_, _<_, _≤_};
 ghost use lib.ListN.{length};
 ghost use Rattle.nick.specs.Sizes.{recordBytes};
-ghost use Rattle.nick.specs.Refusals.{paintingRefusal};
-ghost use mathlib.Core.Bool.{_||_};
-ghost use lib.Dec.{eqb};
-ghost use Rattle.painting.specs.Frames.{Accepted, NextLine, Frame, Paints};
+ghost use Rattle.nick.specs.Refusals.{Formed, Accepted, paintingRefusal};
+ghost use Rattle.painting.specs.Frames.{NextLine, Frame, Paints};
+use lists::smaller;
 use nick::Painted;
 use nick::RECORD_BYTES;
 use nick::State;
+use refusals::is_bad_external;
+use refusals::is_bad_height;
+use refusals::is_bad_length;
+use refusals::is_ill_formed;
+use refusals::is_not_full;
 use scanline::paint_scanline;
-
-// External input is empty, or one byte for each dot.
-fn external_fits(bytes: usize, height: usize) -> bool
-    requires { ⌜ height ≤ 1024 ⌝ }
-    ensures { λ r. ⌜ r ≡ eqb bytes 0 || eqb bytes (736 * height) ⌝ }
-{
-    bytes == 0 || bytes == 736 * height
-}
 
 // The refusal of a painting, 0 for none: the tests in the order of their numbers.
 fn refusal(
@@ -32,35 +28,29 @@ fn refusal(
 ) -> u8
     ensures { λ r. ⌜ r ≡ paintingRefusal state (now (ram .entry)) height (now (dots .entry)) (now (records .entry)) (now (external .entry)) ⌝ }
 {
-    if 256 < state.scan.left {
+    if is_ill_formed(state.scan) {
         return 3;
     }
-    if 4095 < state.scan.number {
-        return 3;
-    }
-    if ram.len() != 65536 {
+    if is_not_full(ram) {
         return 4;
     }
-    if height == 0 {
+    if is_bad_height(height) {
         return 5;
     }
-    if 1024 < height {
-        return 5;
-    }
-    if dots.len() != 736 * height {
+    if is_bad_length(dots.len(), 736, height) {
         return 6;
     }
-    if records.len() != RECORD_BYTES * height {
+    if is_bad_length(records.len(), RECORD_BYTES, height) {
         return 7;
     }
-    if !external_fits(external.len(), height) {
+    if is_bad_external(external.len(), height) {
         return 8;
     }
     0
 }
 
-// Paints line `y` of a frame into its parts of the buffers.
-fn next_line(
+// Paints line `y` of a frame into its parts of the buffers, with its own part of the external input; it is never refused.
+pub fn next_line(
     state: State,
     ram: &[u8],
     y: usize,
@@ -69,14 +59,22 @@ fn next_line(
     external: &[u8],
 ) -> State
     requires { ⌜ (length (now ram) ≡ 65536) × (y < 1024) × (736 * y + 736 ≤ length (now dots)) × (recordBytes * y + recordBytes ≤ length (now records)) ⌝ }
-    requires { ⌜ (state .scan .number < 4096) × (state .scan .left ≤ 256) ⌝ }
+    requires { ⌜ Formed (state .scan) ⌝ }
     ensures { λ r. ⌜ NextLine state (now (ram .entry)) y (now (external .entry)) (now (dots .entry)) (now (dots .exit)) (now (records .entry)) (now (records .exit)) r ⌝ }
 {
     let a = 736 * y;
     let e = a + 736;
     let b = RECORD_BYTES * y;
     let f = b + RECORD_BYTES;
-    paint_scanline(state, ram, &mut dots[a..e], &mut records[b..f], external, a)
+    let from = smaller(a, external.len());
+    let to = smaller(e, external.len());
+    paint_scanline(
+        state,
+        ram,
+        &mut dots[a..e],
+        &mut records[b..f],
+        &external[from..to],
+    )
 }
 
 // Paints the lines of a frame that is not refused.

@@ -1,8 +1,10 @@
-// The line record's flags and active slots, and sync through a scanline.
+// The line record and how it is written, its flags and active slots, and sync through a scanline.
 mod record;
 mod sync;
 
+pub use record::Record;
 pub use record::flag_byte;
+pub use record::put_record;
 pub use record::slots_byte;
 pub use sync::Sync;
 pub use sync::sync_line;

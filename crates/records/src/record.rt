@@ -1,9 +1,31 @@
-// The line record's first and last byte.
+// The line record: how it is written, and its first and last byte.
 ghost use mathlib.Core.Path.{_≡_};
 ghost use mathlib.Core.Bool.{_&&_, not};
+ghost use lib.ListN.{length};
+ghost use Rattle.nick.specs.Sizes.{recordBytes};
 ghost use Rattle.nick.specs.Record.{flags, fetchingSlots};
+ghost use Rattle.records.specs.Records.{bytesOf};
 use lists::bit;
 use nick::Block;
+
+// The record of a scanline.
+pub struct Record {
+    pub flags: u8,
+    pub sync: u8,
+    pub fetched: u8,
+    pub slots: u8,
+}
+
+// Writes the bytes of a record.
+pub fn put_record(line: Record, out: &mut [u8])
+    requires { ⌜ length (now out) ≡ recordBytes ⌝ }
+    ensures { λ r. ⌜ now (out .exit) ≡ bytesOf line ⌝ }
+{
+    out[0] = line.flags;
+    out[1] = line.sync;
+    out[2] = line.fetched;
+    out[3] = line.slots;
+}
 
 // VIRQ is low now, and was high in the scanline before.
 fn falls(low: bool, was_low: bool) -> bool

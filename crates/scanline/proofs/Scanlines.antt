@@ -15,7 +15,7 @@ use Rattle.nick.specs.Record.{flags, fetchingSlots, lineRecord, nextState}
 use Rattle.nick.specs.declared.Pointers.{Pointers}
 use Rattle.nick.specs.declared.Scan.{Scan}
 use Rattle.nick.specs.declared.State.{State}
-use Rattle.scanline.specs.Lines.{slotsEnd}
+use Rattle.scanline.specs.Lines.{slotsEnd, endedAt}
 
 -- the fetches of a load
 pub load-length : (t : Bool) (n : ℕ) → length (pick t (blockAddresses n) []) ≡ pick t 16 0
@@ -28,32 +28,30 @@ module _ (s : State) (ram : List ℕ) (c : Scan) (begins : c ≡ begun (s .regis
   unfolding lineDots
   dots-are ext = rw begins
 
-  pub state-is : (p : Pointers) (on : Bool)
-      → p ≡ linePointers (modeOf (c .block)) (slotsEnd c)
+  pub state-is : (d : Scan) (p : Pointers) (on : Bool)
+      → d ≡ endedAt c p
+      → p ≡ slotsEnd c
       → on ≡ lineSync (c .block) (s .sync)
       → _≡_ {A = State}
-      (record {
-        registers = s .registers;
-        scan = record { pending = c .pending; block = c .block; number = c .number; at = p; left = c .left - 1 };
-        virq = eqb (c .block .mb / 128 % 2) 1;
-        sync = on;
-      })
+      (record { registers = s .registers; scan = d; virq = eqb (c .block .mb / 128 % 2) 1; sync = on })
       (nextState ram s)
-  unfolding nextState nextScan ended slotsEnd
-  state-is p on hp hon = rw (hp, hon, begins)
+  unfolding nextState nextScan ended endedAt slotsEnd
+  state-is d p on hd hp hon = rw (hd, hp, hon, begins)
 
-  pub record-is : (load : Bool) (f l k y n : ℕ)
+  pub record-is : (d : Scan) (p : Pointers) (load : Bool) (f l k y n : ℕ)
+      → d ≡ endedAt c p
       → load ≡ loads (s .scan)
-      → f ≡ flags (c .block) (s .virq) load (eqb (c .left - 1) 0)
+      → f ≡ flags (c .block) (s .virq) load (eqb (d .left) 0)
       → y ≡ lineSyncCount (c .block) (s .sync)
       → l ≡ pick load 16 0
       → k ≡ length (begunFetches ram c)
       → n ≡ fetchingSlots (c .block)
       → f ∷ y ∷ (l + k) ∷ n ∷ [] ≡ lineRecord ram s
-  unfolding lineRecord lineFetches nextScan ended
-  record-is load f l k y n hload hf hy hl hk hn =
+  unfolding lineRecord lineFetches nextScan ended endedAt
+  record-is d p load f l k y n hd hload hf hy hl hk hn =
       rw (
         hf,
+        hd,
         hy,
         hl,
         hk,

@@ -5,15 +5,17 @@ ghost use lib.ListN.{length};
 ghost use Rattle.lists.specs.Choice.{pick};
 ghost use Rattle.nick.specs.Sizes.{recordBytes};
 ghost use Rattle.nick.specs.Slots.{modeOf, linePointers};
-ghost use mathlib.Core.List.{_∷_, []};
+ghost use Rattle.nick.specs.Refusals.{Formed};
 ghost use Rattle.colour.specs.Cell.{paletteOf};
-ghost use Rattle.scanline.specs.Lines.{NextSlot, Slots, Line};
+ghost use Rattle.scanline.specs.Lines.{NextSlot, Slots, endedAt, Line};
 use nick::Block;
 use nick::Pointers;
 use nick::Registers;
 use nick::Scan;
 use nick::State;
+use records::Record;
 use records::flag_byte;
+use records::put_record;
 use records::slots_byte;
 use records::sync_line;
 use slots::Slot;
@@ -29,10 +31,9 @@ fn next_slot(
     slot: Slot,
     out: &mut [u8],
     external: &[u8],
-    line: usize,
 ) -> Slot
-    requires { ⌜ (now palette ≡ paletteOf registers block) × (length (now ram) ≡ 65536) × (n < 46) × (length (now out) ≡ 736) × (line ≤ 752928) × (slot .fetched ≤ 2 * n) ⌝ }
-    ensures { λ r. ⌜ NextSlot registers (now (ram .entry)) block n slot (now (external .entry)) line (now (out .entry)) (now (out .exit)) r ⌝ }
+    requires { ⌜ (now palette ≡ paletteOf registers block) × (length (now ram) ≡ 65536) × (n < 46) × (length (now out) ≡ 736) × (slot .fetched ≤ 2 * n) ⌝ }
+    ensures { λ r. ⌜ NextSlot registers (now (ram .entry)) block n slot (now (external .entry)) (now (out .entry)) (now (out .exit)) r ⌝ }
 {
     let a = 16 * n;
     let e = a + 16;
@@ -46,13 +47,10 @@ fn next_slot(
         at,
         &mut out[a..e],
         external,
-        line,
     );
     let at = next.at;
-    Slot {
-        at,
-        fetched: slot.fetched + next.fetched,
-    }
+    let fetched = slot.fetched + next.fetched;
+    Slot { at, fetched }
 }
 
 // Paints the 46 dot slots of a scanline that has begun, with its palette.
@@ -63,17 +61,16 @@ fn slots_in_order(
     begun: Scan,
     out: &mut [u8],
     external: &[u8],
-    line: usize,
 ) -> Slot
-    requires { ⌜ (now palette ≡ paletteOf registers (begun .block)) × (length (now ram) ≡ 65536) × (length (now out) ≡ 736) × (line ≤ 752928) ⌝ }
-    ensures { λ r. ⌜ Slots registers (now (ram .entry)) begun (now (external .entry)) line (now (out .exit)) r ⌝ }
+    requires { ⌜ (now palette ≡ paletteOf registers (begun .block)) × (length (now ram) ≡ 65536) × (length (now out) ≡ 736) ⌝ }
+    ensures { λ r. ⌜ Slots registers (now (ram .entry)) begun (now (external .entry)) (now (out .exit)) r ⌝ }
 {
     let block = begun.block;
     let at = begun.at;
     let mut slot = Slot { at, fetched: 0 };
     let mut n = 0;
     while n < 46 {
-        slot = next_slot(registers, palette, ram, block, n, slot, out, external, line);
+        slot = next_slot(registers, palette, ram, block, n, slot, out, external);
         n += 1;
     }
     slot
@@ -86,10 +83,9 @@ fn paint_slots(
     begun: Scan,
     out: &mut [u8],
     external: &[u8],
-    line: usize,
 ) -> Slot
-    requires { ⌜ (length (now ram) ≡ 65536) × (length (now out) ≡ 736) × (line ≤ 752928) ⌝ }
-    ensures { λ r. ⌜ Slots registers (now (ram .entry)) begun (now (external .entry)) line (now (out .exit)) r ⌝ }
+    requires { ⌜ (length (now ram) ≡ 65536) × (length (now out) ≡ 736) ⌝ }
+    ensures { λ r. ⌜ Slots registers (now (ram .entry)) begun (now (external .entry)) (now (out .exit)) r ⌝ }
 {
     let block = begun.block;
     if slots_byte(block) == 0 {
@@ -99,7 +95,7 @@ fn paint_slots(
     }
     let mut palette = [0u8; 16];
     colour::put_palette(registers, block, &mut palette);
-    slots_in_order(registers, &palette, ram, begun, out, external, line)
+    slots_in_order(registers, &palette, ram, begun, out, external)
 }
 
 // The pointers after a scanline's slots: LD2 of a character mode goes up.
@@ -116,6 +112,23 @@ fn end_pointers(block: Block, at: Pointers) -> Pointers
     }
 }
 
+// The scan as a scanline ends, its slots having left the pointers `at`.
+fn end_scan(begun: Scan, at: Pointers) -> Scan
+    requires { ⌜ 0 < begun .left ⌝ }
+    ensures { λ r. ⌜ r ≡ endedAt begun at ⌝ }
+{
+    let block = begun.block;
+    let at = end_pointers(block, at);
+    let left = begun.left - 1;
+    Scan {
+        pending: begun.pending,
+        block,
+        number: begun.number,
+        at,
+        left,
+    }
+}
+
 // The bytes that a load fetches.
 fn load_fetches(load: bool) -> u8
     ensures { λ r. ⌜ (r ≡ pick load 16 0) × (r ≤ 16) ⌝ }
@@ -123,48 +136,35 @@ fn load_fetches(load: bool) -> u8
     if load { 16 } else { 0 }
 }
 
-// Writes the four bytes of a line record.
-fn put_record(recorded: &mut [u8], flags: u8, sync: u8, fetched: u8, slots: u8)
-    requires { ⌜ length (now recorded) ≡ recordBytes ⌝ }
-    ensures { λ r. ⌜ now (recorded .exit) ≡ flags ∷ sync ∷ fetched ∷ slots ∷ [] ⌝ }
-{
-    recorded[0] = flags;
-    recorded[1] = sync;
-    recorded[2] = fetched;
-    recorded[3] = slots;
-}
-
-// Paints the next scanline; its external bytes are from `line` on.
+// Paints the next scanline; `external` has its bytes.
 pub fn paint_scanline(
     state: State,
     ram: &[u8],
     dots: &mut [u8],
     recorded: &mut [u8],
     external: &[u8],
-    line: usize,
 ) -> State
-    requires { ⌜ (length (now ram) ≡ 65536) × (length (now dots) ≡ 736) × (length (now recorded) ≡ recordBytes) × (line ≤ 752928) ⌝ }
-    requires { ⌜ (state .scan .number < 4096) × (state .scan .left ≤ 256) ⌝ }
-    ensures { λ r. ⌜ Line state (now (ram .entry)) (now (external .entry)) line (now (dots .exit)) (now (recorded .exit)) r ⌝ }
+    requires { ⌜ (length (now ram) ≡ 65536) × (length (now dots) ≡ 736) × (length (now recorded) ≡ recordBytes) ⌝ }
+    requires { ⌜ Formed (state .scan) ⌝ }
+    ensures { λ r. ⌜ Line state (now (ram .entry)) (now (external .entry)) (now (dots .exit)) (now (recorded .exit)) r ⌝ }
 {
     let registers = state.registers;
     let scan = state.scan;
     let load = blocks::is_loading(scan);
     let begun = blocks::begin(registers, ram, scan);
     let block = begun.block;
-    let slot = paint_slots(registers, ram, begun, dots, external, line);
-    let at = end_pointers(block, slot.at);
-    let scan = Scan {
-        pending: begun.pending,
-        block,
-        number: begun.number,
-        at,
-        left: begun.left - 1,
-    };
+    let slot = paint_slots(registers, ram, begun, dots, external);
+    let scan = end_scan(begun, slot.at);
     let sync = sync_line(block, state.sync);
     let flags = flag_byte(block, state.virq, load, scan.left == 0);
     let fetched = load_fetches(load) + slot.fetched;
-    put_record(recorded, flags, sync.count, fetched, slots_byte(block));
+    let line = Record {
+        flags,
+        sync: sync.count,
+        fetched,
+        slots: slots_byte(block),
+    };
+    put_record(line, recorded);
     State {
         registers,
         scan,

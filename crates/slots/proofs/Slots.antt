@@ -3,7 +3,6 @@ use mathlib.Core.Path.{_≡_, refl, sym, ap, _∙_}
 use mathlib.Core.Bool.{Bool, true, false}
 use mathlib.Core.List.{List, [], _∷_, map}
 use Prim.Native.Nat.{ℕ, _+_, _-_, _*_, _/_, _%_, _<_, _≤_}
-use native.Mathlib.Nat.{add-assoc}
 use native.Mathlib.Decide.{decLt}
 use native.Mathlib.Omega.{arith}
 use borrow.Author.Tests.{lt-ltb, le-ltb}
@@ -152,13 +151,13 @@ picked true x f = sym (tab-one x 16)
 picked false x f = refl
 
 -- a slot painted with the dots of what it fetched is painted by the rules
-pub any-slot : (g : Registers) (ram : List ℕ) (b : Block) (n : ℕ) (p : Pointers) (external : List ℕ) (line : ℕ) (out : List ℕ) (f : Fetched)
+pub any-slot : (g : Registers) (ram : List ℕ) (b : Block) (n : ℕ) (p : Pointers) (external out : List ℕ) (f : Fetched)
     → byteAt ram (p .ld1) < 256
     → f ≡ fetchedAt (activeAt b n) (modeOf b) ram b p
-    → out ≡ fetchedDots g b f external (line + 16 * n)
-    → AnySlot g ram b n p external line out (record { at = f .at; fetched = f .count })
+    → out ≡ fetchedDots g b f external (16 * n)
+    → AnySlot g ram b n p external out (record { at = f .at; fetched = f .count })
 unfolding fetchedDots mixedDots mixedDot slotDots
-any-slot g ram b n p external line out f l e o = record {
+any-slot g ram b n p external out f l e o = record {
   dots = o ∙ rw e (picked (eqb (got .count) 0) (pick (syncs (modeOf b)) 0 (g .border)) dot ∙ tab-same shown ruled 16 same);
   at = rw e (moved g ram b p (activeAt b n) (modeOf b) ∙ past (activeAt b n));
   fetched = rw e (counted g ram b p (activeAt b n) (modeOf b) ∙ ap length (addresses (activeAt b n)));
@@ -169,16 +168,16 @@ any-slot g ram b n p external line out f l e o = record {
     got = fetchedAt (activeAt b n) (modeOf b) ram b p
 
     dot : ℕ → ℕ
-    dot j = mixedColour g b (slotPixel got j) (byteAt external (line + 16 * n + j))
+    dot j = mixedColour g b (slotPixel got j) (byteAt external (16 * n + j))
 
     shown : ℕ → ℕ
     shown j = pick (eqb (got .count) 0) (pick (syncs (modeOf b)) 0 (g .border)) (dot j)
 
     ruled : ℕ → ℕ
-    ruled j = dotColour g b (dotAt (activeAt b n) ram b p j) (byteAt external (line + (16 * n + j)))
+    ruled j = dotColour g b (dotAt (activeAt b n) ram b p j) (byteAt external (16 * n + j))
 
     same : (j : ℕ) → j < 16 → shown j ≡ ruled j
-    same j h = rw (add-assoc line (16 * n) j) (mode-dot g ram b p (activeAt b n) (modeOf b) j (byteAt external (line + (16 * n + j))) h l)
+    same j h = mode-dot g ram b p (activeAt b n) (modeOf b) j (byteAt external (16 * n + j)) h l
 
     past : (active : Bool) → pick active (slotPointers (modeOf b) p) p ≡ pastSlot active b p
     past true = refl

@@ -58,7 +58,7 @@ fn show_slot(
     external: &[u8],
     from: usize,
 )
-    requires { ⌜ (now palette ≡ paletteOf registers block) × (length (now out) ≡ 16) × (from ≤ 753664) ⌝ }
+    requires { ⌜ (now palette ≡ paletteOf registers block) × (length (now out) ≡ 16) × (from ≤ 736) ⌝ }
     ensures { λ r. ⌜ now (out .exit) ≡ fetchedDots registers block fetched (now (external .entry)) from ⌝ }
 {
     if fetched.count == 0 {
@@ -68,7 +68,7 @@ fn show_slot(
     }
 }
 
-// Paints dot slot `n` with the block's palette; the scanline's external bytes are from `line` on.
+// Paints dot slot `n` with the block's palette; `external` has the scanline's bytes.
 pub fn paint_slot(
     registers: Registers,
     palette: &[u8],
@@ -78,21 +78,12 @@ pub fn paint_slot(
     at: Pointers,
     out: &mut [u8],
     external: &[u8],
-    line: usize,
 ) -> Slot
-    requires { ⌜ (now palette ≡ paletteOf registers block) × (length (now ram) ≡ 65536) × (n < 46) × (length (now out) ≡ 16) × (line ≤ 752928) ⌝ }
-    ensures { λ r. ⌜ AnySlot registers (now (ram .entry)) block n at (now (external .entry)) line (now (out .exit)) r ⌝ }
+    requires { ⌜ (now palette ≡ paletteOf registers block) × (length (now ram) ≡ 65536) × (n < 46) × (length (now out) ≡ 16) ⌝ }
+    ensures { λ r. ⌜ AnySlot registers (now (ram .entry)) block n at (now (external .entry)) (now (out .exit)) r ⌝ }
 {
     let fetched = fetch_slot(ram, block, n, at);
-    show_slot(
-        registers,
-        palette,
-        block,
-        fetched,
-        out,
-        external,
-        line + 16 * n,
-    );
+    show_slot(registers, palette, block, fetched, out, external, 16 * n);
     let at = fetched.at;
     Slot {
         at,

@@ -173,7 +173,7 @@ fn show_dot(
     external: &[u8],
     from: usize,
 )
-    requires { ⌜ (length (now out) ≡ 16) × (j < 16) × (from ≤ 753664) ⌝ }
+    requires { ⌜ (length (now out) ≡ 16) × (j < 16) × (from ≤ 736) ⌝ }
     ensures { λ r. ⌜ now (out .exit) ≡ set (now (out .entry)) j (mixedDot registers block fetched (now (external .entry)) from j) ⌝ }
 {
     let pixel = slot_pixel(fetched, j);
@@ -190,7 +190,7 @@ fn show_mixed(
     external: &[u8],
     from: usize,
 )
-    requires { ⌜ (length (now out) ≡ 16) × (from ≤ 753664) ⌝ }
+    requires { ⌜ (length (now out) ≡ 16) × (from ≤ 736) ⌝ }
     ensures { λ r. ⌜ now (out .exit) ≡ mixedDots registers block fetched (now (external .entry)) from ⌝ }
 {
     let mut j = 0;
@@ -210,7 +210,7 @@ pub fn show(
     external: &[u8],
     from: usize,
 )
-    requires { ⌜ (now palette ≡ paletteOf registers block) × (length (now out) ≡ 16) × (from ≤ 753664) ⌝ }
+    requires { ⌜ (now palette ≡ paletteOf registers block) × (length (now out) ≡ 16) × (from ≤ 736) ⌝ }
     ensures { λ r. ⌜ now (out .exit) ≡ mixedDots registers block fetched (now (external .entry)) from ⌝ }
 {
     if external.len() == 0 {

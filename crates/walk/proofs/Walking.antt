@@ -5,35 +5,21 @@ use mathlib.Core.List.{List}
 use Prim.Native.Nat.{ℕ, zero, suc, _+_, _≤_, _<_, min}
 use native.Mathlib.Nat.{not-suc-le-zero, lt-irrefl}
 use native.Mathlib.Omega.{arith}
-use lib.Dec.{eqb}
-use borrow.Author.Tests.{eqb-false}
 use Rattle.lists.specs.Choice.{pick}
-use Rattle.lists.proofs.Tests.{or-rest}
-use Rattle.nick.specs.Blocks.{loads, loaded, continued, begun}
+use Rattle.nick.specs.Blocks.{begun}
+use Rattle.nick.specs.Refusals.{Formed}
 use Rattle.nick.specs.declared.Registers.{Registers}
 use Rattle.nick.specs.declared.Scan.{Scan}
-use Rattle.nick.proofs.WellFormed.{begun-number}
+use Rattle.nick.proofs.WellFormed.{begun-some, begun-formed}
 use Rattle.claims.proofs.Scanlines.{scan-add}
 use Rattle.walk.specs.Steps.{skipped}
-use Rattle.walk.specs.Walks.{Formed, Reached}
+use Rattle.walk.specs.Walks.{Reached}
 use Rattle.walk.proofs.Rises.{Sixteen}
-use Rattle.walk.proofs.Lines.{begunBy, lines-inside}
-
-begun-left : (g : Registers) (ram : List ℕ) (c : Scan) → c .left ≤ 256 → begun g ram c .block .sc < 256 → (1 ≤ begun g ram c .left) × (begun g ram c .left ≤ 256)
-unfolding begun continued loaded
-begun-left g ram c h = go (loads c) refl
-  where
-    go : (t : Bool) → loads c ≡ t → begunBy t g ram c .block .sc < 256 → (1 ≤ begunBy t g ram c .left) × (begunBy t g ram c .left ≤ 256)
-    go true e s = (omega arith, omega arith)
-    go false e s =
-        let some : c .left ≡ 0 → ⊥ = eqb-false (c .left) 0 (or-rest (c .pending) (eqb (c .left) 0) e) in
-        (omega arith, h)
+use Rattle.walk.proofs.Lines.{lines-inside}
 
 -- a well-formed scan begins well-formed, with a scanline left
-pub begun-formed : (g : Registers) (ram : List ℕ) (c d : Scan) → d ≡ begun g ram c → Formed c → d .block .sc < 256 → g .lpl < 256 → (1 ≤ d .left) × Formed d
-begun-formed g ram c d e f s l =
-    let k = begun-left g ram c (f .left) (rw e at s) in
-    rw e (k .0, record { number = begun-number g ram c l (f .number); left = k .1 })
+pub begins-formed : (g : Registers) (ram : List ℕ) (c d : Scan) → d ≡ begun g ram c → Formed c → d .block .sc < 256 → g .lpl < 256 → (1 ≤ d .left) × Formed d
+begins-formed g ram c d e f s l = rw e (begun-some g ram c (rw e at s), begun-formed g ram c l f)
 
 -- n of the next scanlines can be stepped together, the first having begun as d says
 pub record Together (d : Scan) (lines n : ℕ) : Type 0 where

@@ -1,16 +1,12 @@
 -- What the walk from block to block answers.
-use Prim.Native.Nat.{ℕ, _≤_, _<_}
+use Prim.Native.Nat.{ℕ, _≤_}
 use mathlib.Core.Path.{_≡_}
 use mathlib.Core.List.{List}
 use Rattle.nick.specs.Scanline.{scanAfter}
+use Rattle.nick.specs.Refusals.{Formed}
 use Rattle.nick.specs.declared.Registers.{Registers}
 use Rattle.nick.specs.declared.Scan.{Scan}
 use Rattle.walk.specs.declared.Turned.{Turned}
-
--- a scan that refusal 3 does not meet
-pub record Formed (c : Scan) : Type 0 where
-  pub number : c .number < 4096
-  pub left : c .left ≤ 256
 
 -- d is the scan after n scanlines from c
 pub record Reached (g : Registers) (ram : List ℕ) (c : Scan) (n : ℕ) (d : Scan) : Type 0 where

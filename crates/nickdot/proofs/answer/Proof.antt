@@ -1,6 +1,7 @@
 -- `nickdot::answer`: a refused write is told, else the rules' answer is given.
+use mathlib.Core.Path.{sym, _∙_}
 use native.Mathlib.Omega.{arith}
-use Rattle.nickdot.proofs.Accepted.{write-refused, writes-accepted}
+use Rattle.files.proofs.AfterWrites.{writes-refused, writes-accepted}
 use borrow.Author.Needs.{needs}
 use Rattle.nickdot.proofs.answer.Statement.{statement}
 use Rattle.nickdot.proofs.answer.Tie as tie
@@ -12,7 +13,7 @@ returns : tie.Need-returns
 returns c =
     let a = c .before .before .before .before .before .args in
     let w = c .before .before .apply-writes in
-    write-refused (a .writes .now) (a .ram .now) (a .line) (a .dot) (a .external) (w .result) (w .ensures) (λ z. omega arith)
+    sym (writes-refused (a .writes .now) _ _ (w .result) (w .ensures) (λ z. omega arith))
 
 dot-requires : tie.Need-dot-requires
 dot-requires c κs = search needs
@@ -21,7 +22,7 @@ returns-2 : tie.Need-returns-2
 returns-2 c =
     let a = c .before .before .before .before .before .before .args in
     let w = c .before .before .before .apply-writes in
-    writes-accepted (a .writes .now) (a .ram .now) (a .line) (a .dot) (a .external) (w .result) _ (w .ensures) (omega arith) (c .dot .ensures)
+    c .dot .ensures ∙ sym (writes-accepted (a .writes .now) _ _ (w .result) (w .ensures) (omega arith))
 
 pub answer-spec : {M : Type 1} → statement M
 answer-spec = tie.close (tie.spec apply-writes-requires returns dot-requires returns-2)

@@ -1,7 +1,8 @@
 -- `painting::paint_lines`: the table decides, and each case is the rules' painting.
 use mathlib.Core.Path.{_≡_, sym, _∙_}
 use native.Mathlib.Omega.{arith}
-use Rattle.painting.proofs.FrameLines.{accepted-facts, paints-refused, paints-accepted}
+use Rattle.nick.proofs.Refusals.{accepted}
+use Rattle.painting.proofs.FrameLines.{paints-refused, paints-accepted}
 use borrow.Author.Needs.{needs}
 use Rattle.painting.proofs.paint_lines.Statement.{statement}
 use Rattle.painting.proofs.paint_lines.Tie as tie
@@ -28,7 +29,7 @@ paint-accepted-requires : tie.Need-paint-accepted-requires
 paint-accepted-requires c κs =
     let a = c .before .before .before .before .before .before .before .before .before .before .args in
     let none : c .before .before .before .refusal .result ≡ 0 = omega arith in
-    accepted-facts (a .state) (a .ram .now) (a .height) (a .dots .now) (a .records .now) (a .external .now) (sym (c .before .before .before .refusal .ensures) ∙ none)
+    accepted (a .state) (a .ram .now) (a .height) (a .dots .now) (a .records .now) (a .external .now) (sym (c .before .before .before .refusal .ensures) ∙ none)
 
 same-length-3 : tie.Need-same-length-3
 same-length-3 c = search needs

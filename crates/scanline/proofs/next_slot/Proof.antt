@@ -24,8 +24,8 @@ part-paint-slot-end c = search needs
 paint-slot-requires : tie.Need-paint-slot-requires
 paint-slot-requires c κs = search needs
 
-add-t19 : tie.Need-add-t19
-add-t19 c = search needs
+add-fetched : tie.Need-add-fetched
+add-fetched c = search needs
 
 same-length : tie.Need-same-length
 same-length c = search needs
@@ -52,6 +52,6 @@ next-slot-spec =
     part-paint-slot-start
     part-paint-slot-end
     paint-slot-requires
-    add-t19
+    add-fetched
     same-length
     returns)

@@ -1,8 +1,7 @@
 -- `scanline::paint_scanline` puts its parts together by the laws of `Scanlines`.
-use mathlib.Core.Path.{ap, _∙_}
+use mathlib.Core.Path.{_∙_}
 use Prim.Native.Nat.{_<_}
 use native.Mathlib.Omega.{arith}
-use Rattle.nick.specs.Slots.{modeOf, linePointers}
 use Rattle.nick.proofs.WellFormed.{begun-some}
 use Rattle.scanline.proofs.Scanlines.{dots-are, state-is, record-is}
 use borrow.Author.Needs.{needs}
@@ -13,19 +12,17 @@ is-loading-requires : tie.Need-is-loading-requires
 is-loading-requires c κs = search needs
 
 begin-requires : tie.Need-begin-requires
-begin-requires c κs = search needs
+begin-requires c κs = (c .before .before .before .before .before .before .before .pre .0 .0, c .before .before .before .before .before .before .before .pre .1 .number)
 
 paint-slots-requires : tie.Need-paint-slots-requires
 paint-slots-requires c κs = search needs
 
-end-pointers-requires : tie.Need-end-pointers-requires
-end-pointers-requires c κs = search needs
-
-sub-t20 : tie.Need-sub-t20
-sub-t20 c =
-    let some : 0 < c .before .before .before .before .before .before .before .begin .result .left =
-    rw (c .before .before .before .before .before .before .before .begin .ensures) (begun-some (c .before .before .before .before .before .before .before .before .before .before .before .before .before .before .before .args .state .registers) (c .before .before .before .before .before .before .before .before .before .before .before .before .before .before .before .args .ram .now) (c .before .before .before .before .before .before .before .before .before .before .before .before .before .before .before .args .state .scan) (λ i. c .before .before .before .before .before .before .before .before .before .before .before .before .before .before .shared-slice-known .given i .fits)) in
-    omega arith
+end-scan-requires : tie.Need-end-scan-requires
+end-scan-requires c κs =
+    let begin = c .before .before .before .before .before .begin in
+    let a = c .before .before .before .before .before .before .before .before .before .before .before .before .before .args in
+    let sc : begin .result .block .sc < 256 = omega (arith, begin .ok) in
+    rw (begin .ensures) (begun-some (a .state .registers) (a .ram .now) (a .state .scan) (rw (begin .ensures) at sc))
 
 sync-line-requires : tie.Need-sync-line-requires
 sync-line-requires c κs = search needs
@@ -43,7 +40,7 @@ slots-byte-requires : tie.Need-slots-byte-requires
 slots-byte-requires c κs = search needs
 
 put-record-requires : tie.Need-put-record-requires
-put-record-requires c κs = c .before .before .before .before .before .before .before .before .before .before .before .before .before .before .before .before .before .before .before .before .before .before .pre .0 .2
+put-record-requires c κs = c .before .before .before .before .before .before .before .before .before .before .before .before .before .before .before .before .before .before .before .before .before .pre .0 .2
 
 same-length : tie.Need-same-length
 same-length c = search needs
@@ -53,18 +50,25 @@ same-length-2 c = search needs
 
 returns : tie.Need-returns
 returns c =
-    let s = c .before .before .before .before .before .before .before .before .before .before .before .before .before .before .before .before .before .before .before .before .before .before .before .before .before .before .args .state in
-    let ram = c .before .before .before .before .before .before .before .before .before .before .before .before .before .before .before .before .before .before .before .before .before .before .before .before .before .before .args .ram .now in
-    let begun = c .before .before .before .before .before .before .before .before .before .before .before .before .before .before .before .before .before .before .begin .result in
-    let begins = c .before .before .before .before .before .before .before .before .before .before .before .before .before .before .before .before .before .before .begin .ensures in
-    let slots = c .before .before .before .before .before .before .before .before .before .before .before .before .before .before .before .paint-slots .ensures in
+    let put = c .before .before .before in
+    let active = put .before .before in
+    let load = active .before .before in
+    let flags = load .before in
+    let sync = flags .before .before in
+    let end = sync .before in
+    let slots = end .before .before .before in
+    let begin = slots .before .before .before in
+    let loading = begin .before in
+    let a = loading .before .before .before .before .before .before .before .args in
+    let begun = begin .begin .result in
+    let begins = begin .begin .ensures in
     record {
-      dots = slots .dots ∙ dots-are s ram begun begins _;
-      bytes = c .before .before .before .put-record .ensures
-          ∙ record-is s ram begun begins (c .before .before .before .before .before .before .before .before .before .before .before .before .before .before .before .before .before .before .before .is-loading .result) _ _ _ _ _ (c .before .before .before .before .before .before .before .before .before .before .before .before .before .before .before .before .before .before .before .is-loading .ensures) (c .before .before .before .before .before .before .before .before .flag-byte .ensures)
-          (c .before .before .before .before .before .before .before .before .before .before .sync-line .ensures .slots) (c .before .before .before .before .before .before .before .load-fetches .ensures .0) (slots .fetched) (c .before .before .before .before .slots-byte .ensures);
-      state = state-is s ram begun begins (c .before .before .before .before .before .before .before .before .before .before .before .before .end-pointers .result) (c .before .before .before .before .before .before .before .before .before .before .sync-line .result .on)
-          (c .before .before .before .before .before .before .before .before .before .before .before .before .end-pointers .ensures ∙ ap (linePointers (modeOf (begun .block))) (slots .at)) (c .before .before .before .before .before .before .before .before .before .before .sync-line .ensures .level);
+      dots = slots .paint-slots .ensures .dots ∙ dots-are (a .state) (a .ram .now) begun begins _;
+      bytes = put .put-record .ensures
+          ∙ record-is (a .state) (a .ram .now) begun begins _ _ (loading .is-loading .result) _ _ _ _ _ (end .end-scan .ensures) (loading .is-loading .ensures)
+          (flags .flag-byte .ensures) (sync .sync-line .ensures .slots) (load .load-fetches .ensures .0) (slots .paint-slots .ensures .fetched) (active .slots-byte .ensures);
+      state = state-is (a .state) (a .ram .now) begun begins (end .end-scan .result) _ (sync .sync-line .result .on) (end .end-scan .ensures)
+          (slots .paint-slots .ensures .at) (sync .sync-line .ensures .level);
     }
 
 pub paint-scanline-spec : {M : Type 1} → statement M
@@ -74,8 +78,7 @@ paint-scanline-spec =
     is-loading-requires
     begin-requires
     paint-slots-requires
-    end-pointers-requires
-    sub-t20
+    end-scan-requires
     sync-line-requires
     flag-byte-requires
     load-fetches-requires

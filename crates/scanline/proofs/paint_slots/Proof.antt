@@ -1,6 +1,5 @@
 -- `scanline::paint_slots`: where byte 3 of the record is 0, the scanline is plain.
 use mathlib.Core.Path.{_≡_, sym, _∙_}
-use Prim.Native.Nat.{ℕ, _+_}
 use native.Mathlib.Omega.{arith}
 use Rattle.nick.specs.Numbers.{byteAt}
 use Rattle.nick.specs.Record.{fetchingSlots}
@@ -24,7 +23,7 @@ same-length c = search needs
 returns : tie.Need-returns
 returns c =
     let a = c .before .before .before .before .before .before .before .before .before .before .before .before .args in
-    let ext : ℕ → ℕ = λ x. byteAt (a .external .now) (a .line + x) in
+    let ext = byteAt (a .external .now) in
     let none : fetchingSlots (a .begun .block) ≡ 0 = sym (c .before .before .before .before .before .before .before .slots-byte .ensures) ∙ c .before .before .before .before .before .before .if1 .taken in
     record {
       dots = c .before .before .before .fill .ensures ∙ rw (c .before .before .before .before .outside .ensures) (idle-dots (a .registers) (a .ram .now) (a .begun) ext none _ (c .before .before .before .before .before .before .before .before .before .before .before .before .pre .1));

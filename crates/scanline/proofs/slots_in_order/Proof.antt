@@ -14,16 +14,16 @@ use Rattle.scanline.proofs.slots_in_order.Statement.{statement}
 use Rattle.scanline.proofs.slots_in_order.Tie as tie
 
 abbrev Inv-loop : tie.InvT-loop
-Inv-loop registers palette ram out₀ external line block slot₀ n₀ out slot n =
+Inv-loop registers palette ram out₀ external block slot₀ n₀ out slot n =
     (n ≤ 46)
     × (length out ≡ length out₀)
-    × (out ≡ slotsDots registers ram block n (slot₀ .at) (λ x. byteAt external (line + x)) ++ drop (16 * n) out₀)
+    × (out ≡ slotsDots registers ram block n (slot₀ .at) (byteAt external) ++ drop (16 * n) out₀)
     × (slot .at ≡ pointersAfter block n (slot₀ .at))
     × (slot .fetched ≡ length (slotsFetched ram block n (slot₀ .at)))
     × (slot .fetched ≤ 2 * n)
 
 abbrev μ-loop : tie.MeasureT-loop
-μ-loop registers palette ram out₀ external line block slot₀ n₀ out slot n = 46 - n
+μ-loop registers palette ram out₀ external block slot₀ n₀ out slot n = 46 - n
 
 loop-holds : tie.Need-loop-holds Inv-loop μ-loop
 loop-holds c = search needs

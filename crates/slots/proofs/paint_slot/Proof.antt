@@ -10,9 +10,6 @@ fetch-slot-requires c κs = search needs
 mul-show-slot : tie.Need-mul-show-slot
 mul-show-slot c = search needs
 
-add-show-slot : tie.Need-add-show-slot
-add-show-slot c = search needs
-
 show-slot-requires : tie.Need-show-slot-requires
 show-slot-requires c κs = search needs
 
@@ -22,7 +19,7 @@ same-length c = search needs
 returns : tie.Need-returns
 returns c =
     let a = c .before .before .before .before .before .before .before .before .before .before .args in
-    any-slot (a .registers) (a .ram .now) (a .block) (a .n) (a .at) (a .external .now) (a .line) _ (c .before .before .before .before .before .fetch-slot .result)
+    any-slot (a .registers) (a .ram .now) (a .block) (a .n) (a .at) (a .external .now) _ (c .before .before .before .before .before .fetch-slot .result)
     (c .before .before .before .before .before .before .before .before .shared-slice-known2 .given (a .at .ld1) .fits) (c .before .before .before .before .before .fetch-slot .ensures) (c .before .before .before .show-slot .ensures)
 
 pub paint-slot-spec : {M : Type 1} → statement M
@@ -31,7 +28,6 @@ paint-slot-spec =
     (tie.spec
     fetch-slot-requires
     mul-show-slot
-    add-show-slot
     show-slot-requires
     same-length
     returns)

@@ -1,9 +1,9 @@
 -- `walk::turn`: the scanlines up to the next load end at the closed form, since only the first of them can load.
 use Prim.Native.Nat.{_≤_}
 use native.Mathlib.Omega.{arith}
-use Rattle.walk.specs.Walks.{Formed}
+use Rattle.nick.specs.Refusals.{Formed}
 use Rattle.walk.proofs.Rises.{Sixteen}
-use Rattle.walk.proofs.Walking.{Together, begun-formed, together, reached}
+use Rattle.walk.proofs.Walking.{Together, begins-formed, together, reached}
 use borrow.Author.Needs.{needs}
 use Rattle.walk.proofs.turn.Statement.{statement}
 use Rattle.walk.proofs.turn.Tie as tie
@@ -19,7 +19,7 @@ begins : (c : tie.After-lines-inside) → (1 ≤ c .before .begin .result .left)
 begins c =
     let given = c .before .before .before in
     let a = given .args in
-    begun-formed (a .registers) (a .ram .now) (a .scan) (c .before .begin .result) (c .before .begin .ensures) (given .pre .1) (omega (arith, c .before .begin .ok)) (omega (arith, given .good))
+    begins-formed (a .registers) (a .ram .now) (a .scan) (c .before .begin .result) (c .before .begin .ensures) (given .pre .1) (omega (arith, c .before .begin .ok)) (omega (arith, given .good))
 
 inside : (c : tie.After-lines-inside) → Together (c .before .begin .result) (c .before .before .before .args .lines) (c .lines-inside .result)
 inside c =

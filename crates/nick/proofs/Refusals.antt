@@ -1,0 +1,62 @@
+-- What the tests of the refusal table say where they do not refuse: one by one, of a direct answer and of a painting.
+use mathlib.Core.Path.{_≡_}
+use mathlib.Core.Bool.{false}
+use mathlib.Core.List.{List}
+use Prim.Native.Nat.{ℕ, _*_, _≤_}
+use lib.Dec.{eqb, ltb}
+use lib.ListN.{length}
+use borrow.Author.Tests.{ltb-false, eqb-true, not-false}
+use Rattle.lists.proofs.Tests.{or-first, or-rest, not-picked, rest-zero}
+use Rattle.nick.specs.Sizes.{recordBytes}
+use Rattle.nick.specs.Refusals.{illFormed, Formed, notFull, badHeight, badDots, badRecords, badPlace, paintingRefusal, Accepted, directRefusal}
+use Rattle.nick.specs.declared.State.{State}
+use Rattle.nick.proofs.WellFormed.{formed}
+
+pub full : (ram : List ℕ) → notFull ram ≡ false → length ram ≡ 65536
+full ram e = eqb-true (length ram) 65536 (not-false (eqb (length ram) 65536) e)
+
+pub height-most : (h : ℕ) → badHeight h ≡ false → h ≤ 1024
+height-most h e = ltb-false 1024 h (or-rest (eqb h 0) (ltb 1024 h) e)
+
+pub line-most : (y x : ℕ) → badPlace y x ≡ false → y ≤ 1023
+line-most y x e = ltb-false 1023 y (or-first (ltb 1023 y) (ltb 735 x) e)
+
+pub dot-most : (y x : ℕ) → badPlace y x ≡ false → x ≤ 735
+dot-most y x e = ltb-false 735 x (or-rest (ltb 1023 y) (ltb 735 x) e)
+
+-- what the tests say of a direct answer that is not refused
+pub record Answerable (s : State) (ram : List ℕ) (y x : ℕ) : Type 0 where
+  pub formed : Formed (s .scan)
+  pub full : length ram ≡ 65536
+  pub line : y ≤ 1023
+  pub dot : x ≤ 735
+
+pub answerable : (s : State) (ram : List ℕ) (y x : ℕ) → directRefusal s ram y x ≡ 0 → Answerable s ram y x
+unfolding directRefusal
+answerable s ram y x e =
+    let past-state = rest-zero (illFormed (s .scan)) 2 _ e in
+    let place = not-picked (badPlace y x) 8 0 (rest-zero (notFull ram) 3 _ past-state) in
+    record {
+      formed = formed (s .scan) (not-picked (illFormed (s .scan)) 2 _ e);
+      full = full ram (not-picked (notFull ram) 3 _ past-state);
+      line = line-most y x place;
+      dot = dot-most y x place;
+    }
+
+pub accepted :
+    (s : State) (ram : List ℕ) (h : ℕ) (dots records external : List ℕ)
+    → paintingRefusal s ram h dots records external ≡ 0
+    → Accepted s ram h dots records
+unfolding paintingRefusal
+accepted s ram h dots records external e =
+    let past-state = rest-zero (illFormed (s .scan)) 2 _ e in
+    let past-ram = rest-zero (notFull ram) 3 _ past-state in
+    let past-height = rest-zero (badHeight h) 4 _ past-ram in
+    let past-dots = rest-zero (badDots h dots) 5 _ past-height in
+    record {
+      formed = formed (s .scan) (not-picked (illFormed (s .scan)) 2 _ e);
+      full = full ram (not-picked (notFull ram) 3 _ past-state);
+      height = height-most h (not-picked (badHeight h) 4 _ past-ram);
+      places = eqb-true (length dots) (736 * h) (not-false _ (not-picked (badDots h dots) 5 _ past-height));
+      bytes = eqb-true (length records) (recordBytes * h) (not-false _ (not-picked (badRecords h records) 6 _ past-dots));
+    }

@@ -1,0 +1,7 @@
+-- A line record as its bytes.
+use Prim.Native.Nat.{ℕ}
+use mathlib.Core.List.{List, [], _∷_}
+use Rattle.records.specs.declared.record.Record.{Record}
+
+abbrev pub bytesOf : Record → List ℕ
+bytesOf r = r .flags ∷ r .sync ∷ r .fetched ∷ r .slots ∷ []
