@@ -1,4 +1,4 @@
--- What the programs need of a head: its block number and its height are within bounds.
+-- What is needed of a head: its block number and its height are within bounds.
 use Prim.Native.Nat.{_<_, _≤_}
 use Rattle.cases.specs.declared.head.Head.{Head}
 

@@ -1,4 +1,4 @@
-// The lines that a family's program prints.
+// The lines that are printed of a family.
 use libc::STDOUT_FILENO;
 
 // Counts one call by its refusal, 0 for none.

@@ -1,0 +1,129 @@
+// The painting call of a case: its height, and the lengths of the buffers lent.
+ghost use Prim.Native.Nat.{_+_, _≤_};
+ghost use Rattle.cases.specs.Head.{Drawn};
+ghost use Rattle.random_cases.specs.Lengths.{Lent};
+use cases::Head;
+use lists::smaller;
+use nick::RECORD_BYTES;
+use nick::State;
+
+// A call: of one line or of `height` lines, from a state, with buffers of these lengths.
+pub struct Call {
+    pub single: bool,
+    pub state: State,
+    pub height: usize,
+    pub ram: usize,
+    pub dots: usize,
+    pub records: usize,
+    pub external: usize,
+}
+
+// The height asked for, and the height that the buffers are made for.
+struct Heights {
+    asked: usize,
+    lent: usize,
+}
+
+// A byte as a length's part.
+fn wide(byte: u8) -> usize
+    ensures { λ r. ⌜ r ≤ 255 ⌝ }
+{
+    byte as usize
+}
+
+// Both heights, wrong by trouble 3.
+fn heights_of(head: Head) -> Heights
+    requires { ⌜ Drawn head ⌝ }
+    ensures { λ r. ⌜ r .lent ≤ 1025 ⌝ }
+{
+    let h = head.height;
+    if head.g % 8 == 0 {
+        return Heights { asked: 1, lent: 1 };
+    }
+    if !cases::befalls(head, 3) {
+        return Heights { asked: h, lent: h };
+    }
+    let t = head.t;
+    match t[5] % 4 {
+        0 => Heights { asked: 0, lent: 0 },
+        1 => Heights {
+            asked: 1025,
+            lent: 1025,
+        },
+        2 => Heights { asked: 0, lent: h },
+        _ => Heights {
+            asked: 1025 + 256 * wide(t[6]),
+            lent: h,
+        },
+    }
+}
+
+// A wrong length: one more than the right one, one less, `other`, or `unit` more.
+fn wrong(kind: u8, right: usize, unit: usize, other: usize) -> usize
+    requires { ⌜ (right ≤ 754400) × (1 ≤ unit) × (unit ≤ 736) × (other ≤ 1) ⌝ }
+    ensures { λ r. ⌜ r ≤ right + unit ⌝ }
+{
+    match kind % 4 {
+        0 => right + 1,
+        1 => { if right == 0 { 0 } else { right - 1 } }
+        2 => other,
+        _ => right + unit,
+    }
+}
+
+// The length of dots, wrong by trouble 4.
+fn dots_length(head: Head, lent: usize) -> usize
+    requires { ⌜ lent ≤ 1025 ⌝ }
+    ensures { λ r. ⌜ r ≤ 754400 ⌝ }
+{
+    let right = 736 * lent;
+    if cases::befalls(head, 4) {
+        let t = head.t;
+        return smaller(wrong(t[7], right, 736, 0), 754400);
+    }
+    right
+}
+
+// The length of records, wrong by trouble 5.
+fn records_length(head: Head, lent: usize) -> usize
+    requires { ⌜ lent ≤ 1025 ⌝ }
+    ensures { λ r. ⌜ r ≤ 4104 ⌝ }
+{
+    let right = RECORD_BYTES * lent;
+    if cases::befalls(head, 5) {
+        let t = head.t;
+        return wrong(t[8], right, 4, 0);
+    }
+    right
+}
+
+// The length of external input: none unless bit 3 of G is set; wrong by trouble 6.
+fn external_length(head: Head, lent: usize) -> usize
+    requires { ⌜ lent ≤ 1025 ⌝ }
+    ensures { λ r. ⌜ r ≤ 754400 ⌝ }
+{
+    let right = 736 * lent;
+    if cases::befalls(head, 6) {
+        let t = head.t;
+        return smaller(wrong(t[9], right, 736, 1), 754400);
+    }
+    if head.g / 8 % 2 == 1 { right } else { 0 }
+}
+
+// The call of a case, with its troubles.
+pub fn call_of(head: Head) -> Call
+    requires { ⌜ Drawn head ⌝ }
+    ensures { λ r. ⌜ Lent r ⌝ }
+{
+    let state = cases::troubled(head);
+    let heights = heights_of(head);
+    Call {
+        single: head.g % 8 == 0,
+        state,
+        height: heights.asked,
+        ram: cases::ram_length(head),
+        dots: dots_length(head, heights.lent),
+        records: records_length(head, heights.lent),
+        external: external_length(head, heights.lent),
+    }
+}
