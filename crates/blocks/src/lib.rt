@@ -1,9 +1,13 @@
-// Line parameter blocks: decoding the sixteen bytes, and how a scanline begins.
+// Line parameter blocks: decoding the sixteen bytes, how a scanline begins, and the active slots between the margins.
+mod margins;
+
 ghost use mathlib.Core.Path.{_≡_};
 ghost use Prim.Native.Nat.{_+_, _*_, _<_};
 ghost use lib.ListN.{length};
 ghost use Rattle.nick.specs.Registers.{baseNumber};
 ghost use Rattle.nick.specs.Blocks.{decoded, blockAt, loadedNumber, loaded, continued, loads, begun};
+pub use margins::active_before;
+pub use margins::is_active;
 use nick::Block;
 use nick::Pointers;
 use nick::Registers;

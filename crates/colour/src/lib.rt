@@ -197,11 +197,3 @@ pub fn mixed_colour(registers: Registers, block: Block, pixel: Pixel, external: 
         Pixel::Direct(colour) => colour,
     }
 }
-
-// The colour of the dot at an eighth of the display byte.
-pub fn cell_colour(registers: Registers, block: Block, cell: Cell, at: u8, external: u8) -> u8
-    requires { ⌜ at < 8 ⌝ }
-    ensures { λ r. ⌜ r ≡ mixedColour registers block (cellPixel cell at) external ⌝ }
-{
-    mixed_colour(registers, block, pixel_at(cell, at), external)
-}

@@ -3,134 +3,36 @@ ghost use mathlib.Core.Path.{_≡_};
 ghost use Prim.Native.Nat.{_<_, _≤_};
 ghost use lib.ListN.{length};
 ghost use Rattle.nick.specs.Blocks.{begun};
-ghost use Rattle.nick.specs.Slots.{ATTR, CH, modeOf};
 ghost use Rattle.nick.specs.Scanline.{scanAfter};
 ghost use Rattle.nick.specs.Direct.{answered, direct};
 ghost use Rattle.nick.specs.Refusals.{Formed, badPlace, directRefusal};
-ghost use Rattle.direct.specs.Answers.{
-  unfetchedAnswer,
-  cellAnswer,
-  graphicsAnswer,
-  activeAnswer,
-  dotAnswer,
-};
-use colour::Cell;
+ghost use Rattle.direct.specs.Answers.{fetchedAnswer, dotAnswer};
+use fetch::Fetched;
 use nick::Answer;
 use nick::Block;
-use nick::Pointers;
 use nick::Registers;
 use nick::Scan;
 use nick::Sources;
 use nick::State;
 
-// A dot for which nothing is fetched: 0 in VSYNC, else BORDER.
-fn unfetched(registers: Registers, mode: u8) -> Answer
-    ensures { λ r. ⌜ answered r ≡ unfetchedAnswer registers mode ⌝ }
-{
-    if mode == 0 {
-        return Answer::Colour(0, Sources::Nothing);
-    }
-    Answer::Colour(registers.border, Sources::Nothing)
-}
-
-// The dot at an eighth of a display byte, which comes from `sources`.
-fn cell_dot(
+// Dot `j` of a slot that fetched or not.
+fn fetched_dot(
     registers: Registers,
     block: Block,
-    cell: Cell,
-    eighth: u8,
+    fetched: Fetched,
+    j: usize,
     external: u8,
-    sources: Sources,
 ) -> Answer
-    requires { ⌜ eighth < 8 ⌝ }
-    ensures { λ r. ⌜ answered r ≡ cellAnswer registers block cell eighth external sources ⌝ }
+    requires { ⌜ j < 16 ⌝ }
+    ensures { λ r. ⌜ answered r ≡ fetchedAnswer registers block fetched j external ⌝ }
 {
-    let shown = colour::cell_colour(registers, block, cell, eighth, external);
+    if fetched.count == 0 {
+        return Answer::Colour(fetch::unfetched(registers, block), Sources::Nothing);
+    }
+    let pixel = fetch::pixel_at(fetched, j);
+    let sources = fetch::sources_at(fetched, j);
+    let shown = colour::mixed_colour(registers, block, pixel, external);
     Answer::Colour(shown, sources)
-}
-
-// A dot at an eighth of the one display byte at `address`.
-fn graphics_dot(
-    registers: Registers,
-    ram: &[u8],
-    block: Block,
-    address: u16,
-    eighth: u8,
-    external: u8,
-) -> Answer
-    requires { ⌜ (length (now ram) ≡ 65536) × (eighth < 8) ⌝ }
-    ensures { λ r. ⌜ answered r ≡ graphicsAnswer registers (now (ram .entry)) block address eighth external ⌝ }
-{
-    let place = address as usize;
-    let cell = colour::graphics_cell(block, ram[place]);
-    let sources = Sources::One(address);
-    cell_dot(registers, block, cell, eighth, external, sources)
-}
-
-// Dot `dot` of an active slot in ATTR.
-fn attribute_dot(
-    registers: Registers,
-    ram: &[u8],
-    block: Block,
-    at: Pointers,
-    dot: u8,
-    external: u8,
-) -> Answer
-    requires { ⌜ (length (now ram) ≡ 65536) × (dot < 16) ⌝ }
-    ensures { λ r. ⌜ answered r ≡ activeAnswer ATTR registers (now (ram .entry)) block at dot external ⌝ }
-{
-    let first = at.ld1 as usize;
-    let second = at.ld2 as usize;
-    let cell = colour::attribute_cell(ram[first], ram[second]);
-    let sources = Sources::Two(at.ld1, at.ld2);
-    cell_dot(registers, block, cell, dot / 2, external, sources)
-}
-
-// Dot `dot` of an active slot in the character mode whose codes have `width` bits.
-fn character_dot(
-    registers: Registers,
-    ram: &[u8],
-    block: Block,
-    width: u8,
-    at: Pointers,
-    dot: u8,
-    external: u8,
-) -> Answer
-    requires { ⌜ (length (now ram) ≡ 65536) × (6 ≤ width) × (width ≤ 8) × (dot < 16) ⌝ }
-    ensures { λ r. ⌜ answered r ≡ activeAnswer (CH width) registers (now (ram .entry)) block at dot external ⌝ }
-{
-    let first = at.ld1 as usize;
-    let code = ram[first];
-    let address = walk::font_address(width, at.ld2, code);
-    let second = address as usize;
-    let cell = colour::character_cell(block, code, ram[second]);
-    let sources = Sources::Two(at.ld1, address);
-    cell_dot(registers, block, cell, dot / 2, external, sources)
-}
-
-// Dot `dot` of an active slot, the pointers there being `at`.
-fn active_dot(
-    registers: Registers,
-    ram: &[u8],
-    block: Block,
-    at: Pointers,
-    dot: u8,
-    external: u8,
-) -> Answer
-    requires { ⌜ (length (now ram) ≡ 65536) × (dot < 16) ⌝ }
-    ensures { λ r. ⌜ answered r ≡ activeAnswer (modeOf block) registers (now (ram .entry)) block at dot external ⌝ }
-{
-    let mode = block.mb / 2 % 8;
-    match mode {
-        1 => {
-            let address = std::num::wrapping_add_u16(at.ld1, (dot / 8) as u16);
-            graphics_dot(registers, ram, block, address, dot % 8, external)
-        }
-        2 => attribute_dot(registers, ram, block, at, dot, external),
-        3..=5 => character_dot(registers, ram, block, 11 - mode, at, dot, external),
-        7 => graphics_dot(registers, ram, block, at.ld1, dot / 2, external),
-        _ => unfetched(registers, mode),
-    }
 }
 
 // Dot `dot` of a scanline that has begun as `scan` says.
@@ -139,14 +41,11 @@ fn begun_dot(registers: Registers, ram: &[u8], scan: Scan, dot: usize, external:
     ensures { λ r. ⌜ answered r ≡ dotAnswer registers (now (ram .entry)) scan dot external ⌝ }
 {
     let block = scan.block;
-    let slot = (dot / 16) as u16;
-    if walk::is_active(block, slot) {
-        let at = scan.at;
-        let at = walk::pointers_at(block, at, slot);
-        active_dot(registers, ram, block, at, (dot % 16) as u8, external)
-    } else {
-        unfetched(registers, block.mb / 2 % 8)
-    }
+    let at = scan.at;
+    let slot = dot / 16;
+    let at = walk::pointers_at(block, at, slot as u16);
+    let fetched = fetch::fetch_slot(ram, block, slot, at);
+    fetched_dot(registers, block, fetched, dot % 16, external)
 }
 
 // The scan as scanline `line` from here begins.

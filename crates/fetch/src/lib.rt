@@ -1,26 +1,36 @@
-// What an active slot fetches: the cells that it shows, the pointers after it, how many bytes.
+// What a slot fetches: the cells that it shows, the pointers after it, how many bytes and from where; and what its dots come from.
+mod font;
+
 ghost use mathlib.Core.Path.{_≡_};
-ghost use Prim.Native.Nat.{_≤_};
+ghost use Prim.Native.Nat.{_<_, _≤_};
 ghost use lib.ListN.{length};
 ghost use Rattle.nick.specs.Slots.{PIXEL, ATTR, CH, LPIXEL, modeOf};
-ghost use Rattle.fetch.specs.Fetches.{oneCell, noFetch, fetchedIn};
+ghost use Rattle.lists.specs.Choice.{pick};
+ghost use Rattle.nick.specs.Scanline.{activeAt};
+ghost use Rattle.nick.specs.Sync.{syncs};
+ghost use Rattle.fetch.specs.Fetches.{oneCell, noFetch, fetchedIn, fetchedAt, slotPixel, halfOf, slotSources};
 use colour::Cell;
 use nick::Block;
+use nick::Pixel;
 use nick::Pointers;
+use nick::Registers;
+use nick::Sources;
 use std::num::wrapping_add_u16;
 
-// In PIXEL two cells of eight dots each, else the first alone over sixteen.
+// In PIXEL two cells of eight dots each, else the first alone over sixteen; the pointers after the slot; how many bytes were
+// fetched, and from where.
 pub struct Fetched {
     pub halves: bool,
     pub first: Cell,
     pub second: Cell,
     pub at: Pointers,
     pub count: u8,
+    pub from: Sources,
 }
 
 // One cell over all sixteen dots.
-fn one_cell(cell: Cell, at: Pointers, count: u8) -> Fetched
-    ensures { λ r. ⌜ r ≡ oneCell cell at count ⌝ }
+fn one_cell(cell: Cell, at: Pointers, count: u8, from: Sources) -> Fetched
+    ensures { λ r. ⌜ r ≡ oneCell cell at count from ⌝ }
 {
     Fetched {
         halves: false,
@@ -28,11 +38,12 @@ fn one_cell(cell: Cell, at: Pointers, count: u8) -> Fetched
         second: cell,
         at,
         count,
+        from,
     }
 }
 
 // Nothing is fetched, and nothing moves.
-pub fn no_fetch(at: Pointers) -> Fetched
+fn no_fetch(at: Pointers) -> Fetched
     ensures { λ r. ⌜ r ≡ noFetch at ⌝ }
 {
     let cell = Cell {
@@ -41,7 +52,7 @@ pub fn no_fetch(at: Pointers) -> Fetched
         low: 0,
         high: 0,
     };
-    one_cell(cell, at, 0)
+    one_cell(cell, at, 0, Sources::Nothing)
 }
 
 // PIXEL: two bytes of eight dots.
@@ -63,6 +74,7 @@ fn pixel(ram: &[u8], block: Block, at: Pointers) -> Fetched
         second,
         at,
         count: 2,
+        from: Sources::Two(a, b),
     }
 }
 
@@ -71,14 +83,14 @@ fn attribute(ram: &[u8], block: Block, at: Pointers) -> Fetched
     requires { ⌜ length (now ram) ≡ 65536 ⌝ }
     ensures { λ r. ⌜ r ≡ fetchedIn ATTR (now (ram .entry)) block at ⌝ }
 {
-    let a = at.ld1;
-    let b = at.ld2;
-    let cell = colour::attribute_cell(ram[a as usize], ram[b as usize]);
+    let attribute = at.ld1;
+    let display = at.ld2;
+    let cell = colour::attribute_cell(ram[attribute as usize], ram[display as usize]);
     let at = Pointers {
-        ld1: wrapping_add_u16(a, 1),
-        ld2: wrapping_add_u16(b, 1),
+        ld1: wrapping_add_u16(attribute, 1),
+        ld2: wrapping_add_u16(display, 1),
     };
-    one_cell(cell, at, 2)
+    one_cell(cell, at, 2, Sources::Two(attribute, display))
 }
 
 // A character mode: a code of `width` bits, and a byte of sixteen dots from the font.
@@ -88,13 +100,13 @@ fn character(ram: &[u8], block: Block, width: u8, at: Pointers) -> Fetched
 {
     let a = at.ld1;
     let code = ram[a as usize];
-    let b = walk::font_address(width, at.ld2, code);
-    let cell = colour::character_cell(block, code, ram[b as usize]);
+    let display = font::font_address(width, at.ld2, code);
+    let cell = colour::character_cell(block, code, ram[display as usize]);
     let at = Pointers {
         ld1: wrapping_add_u16(a, 1),
         ld2: at.ld2,
     };
-    one_cell(cell, at, 2)
+    one_cell(cell, at, 2, Sources::Two(a, display))
 }
 
 // LPIXEL: one byte of sixteen dots.
@@ -108,11 +120,11 @@ fn lpixel(ram: &[u8], block: Block, at: Pointers) -> Fetched
         ld1: wrapping_add_u16(a, 1),
         ld2: at.ld2,
     };
-    one_cell(cell, at, 1)
+    one_cell(cell, at, 1, Sources::One(a))
 }
 
 // What an active slot fetches: the video mode's number decides.
-pub fn fetch(ram: &[u8], block: Block, at: Pointers) -> Fetched
+fn fetch(ram: &[u8], block: Block, at: Pointers) -> Fetched
     requires { ⌜ length (now ram) ≡ 65536 ⌝ }
     ensures { λ r. ⌜ r ≡ fetchedIn (modeOf block) (now (ram .entry)) block at ⌝ }
 {
@@ -124,5 +136,72 @@ pub fn fetch(ram: &[u8], block: Block, at: Pointers) -> Fetched
         3..=5 => character(ram, block, 11 - mode, at),
         6 => no_fetch(at),
         _ => lpixel(ram, block, at),
+    }
+}
+
+// What dot slot `n` fetches, active or not.
+pub fn fetch_slot(ram: &[u8], block: Block, n: usize, at: Pointers) -> Fetched
+    requires { ⌜ (length (now ram) ≡ 65536) × (n < 46) ⌝ }
+    ensures { λ r. ⌜ r ≡ fetchedAt (activeAt block n) (modeOf block) (now (ram .entry)) block at ⌝ }
+{
+    let slot = n as u16;
+    if blocks::is_active(block, slot) {
+        fetch(ram, block, at)
+    } else {
+        no_fetch(at)
+    }
+}
+
+// The colour of a dot for which nothing is fetched: BORDER, but blank in VSYNC.
+pub fn unfetched(registers: Registers, block: Block) -> u8
+    ensures { λ r. ⌜ r ≡ pick (syncs (modeOf block)) 0 (registers .border) ⌝ }
+{
+    if block.mb / 2 % 8 == 0 {
+        0
+    } else {
+        registers.border
+    }
+}
+
+// The pixel that dot `j` of a slot shows.
+pub fn pixel_at(fetched: Fetched, j: usize) -> Pixel
+    requires { ⌜ j < 16 ⌝ }
+    ensures { λ r. ⌜ r ≡ slotPixel fetched j ⌝ }
+{
+    if fetched.halves {
+        if j < 8 {
+            return colour::pixel_at(fetched.first, j as u8);
+        }
+        return colour::pixel_at(fetched.second, (j - 8) as u8);
+    }
+    colour::pixel_at(fetched.first, (j / 2) as u8)
+}
+
+// The one of two addresses that a half of the slot comes from.
+fn half_of(from: Sources, left: bool) -> Sources
+    ensures { λ r. ⌜ r ≡ halfOf from left ⌝ }
+{
+    match from {
+        Sources::Nothing => Sources::Nothing,
+        Sources::One(a) => Sources::One(a),
+        Sources::Two(a, b) => {
+            if left {
+                Sources::One(a)
+            } else {
+                Sources::One(b)
+            }
+        }
+    }
+}
+
+// The addresses that dot `j` of a slot comes from.
+pub fn sources_at(fetched: Fetched, j: usize) -> Sources
+    ensures { λ r. ⌜ r ≡ slotSources fetched j ⌝ }
+{
+    let from = fetched.from;
+    if fetched.halves {
+        half_of(from, j < 8)
+    } else {
+        from
     }
 }

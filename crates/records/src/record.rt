@@ -59,5 +59,5 @@ pub fn slots_byte(block: Block) -> u8
     if mode == 6 {
         return 0;
     }
-    walk::active_before(block, 46) as u8
+    blocks::active_before(block, 46) as u8
 }

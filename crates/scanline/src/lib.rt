@@ -89,7 +89,7 @@ fn paint_slots(
 {
     let block = begun.block;
     if slots_byte(block) == 0 {
-        lists::fill(out, slots::outside(registers, block));
+        lists::fill(out, fetch::unfetched(registers, block));
         let at = begun.at;
         return Slot { at, fetched: 0 };
     }

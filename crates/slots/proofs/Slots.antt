@@ -1,32 +1,17 @@
--- The dots of a slot: those of its cells are the rules' dots, in every mode, and a slot that fetches nothing is plain.
+-- The sixteen dots of a slot: those of its cells are the rules' dots, with external input connected or not.
 use mathlib.Core.Path.{_≡_, refl, sym, ap, _∙_}
 use mathlib.Core.Bool.{Bool, true, false}
-use mathlib.Core.List.{List, [], _∷_, map}
-use Prim.Native.Nat.{ℕ, _+_, _-_, _*_, _/_, _%_, _<_, _≤_}
-use native.Mathlib.Decide.{decLt}
+use mathlib.Core.List.{List, []}
+use Prim.Native.Nat.{ℕ, _+_, _*_, _<_, _≤_}
 use native.Mathlib.Omega.{arith}
-use borrow.Author.Tests.{lt-ltb, le-ltb}
-use lib.Dec.{eqb, ltb}
-use lib.ListN.{length, getD, replicate, List·getD-eq-default}
+use lib.Dec.{eqb}
+use lib.ListN.{length, replicate, List·getD-eq-default}
 use Rattle.lists.specs.Choice.{pick}
 use Rattle.lists.specs.Tab.{tab}
 use Rattle.lists.proofs.Laws.{length-tab, getD-tab, tab-same, tab-one}
-use Rattle.nick.specs.Numbers.{up, byteAt}
-use Rattle.nick.specs.Slots.{
-  Mode,
-  VSYNC,
-  PIXEL,
-  ATTR,
-  CH,
-  UNUSED,
-  LPIXEL,
-  modeOf,
-  fontAddress,
-  slotFetches,
-  slotPointers,
-  dotAddresses,
-}
-use Rattle.nick.specs.Colour.{two, pixelsIn, sharing, coloursOf, graphicsPixel, pixelOf, characterAdded, attributePixel, dotIn, paletteColour}
+use Rattle.nick.specs.Numbers.{byteAt}
+use Rattle.nick.specs.Slots.{modeOf, slotFetches, slotPointers}
+use Rattle.nick.specs.Colour.{paletteColour}
 use Rattle.nick.specs.External.{mixedColour, dotColour}
 use Rattle.nick.specs.Scanline.{activeAt, pastSlot, slotAddresses, dotAt, slotDots}
 use Rattle.nick.specs.Sync.{syncs}
@@ -35,23 +20,12 @@ use Rattle.nick.specs.declared.Pointers.{Pointers}
 use Rattle.nick.specs.declared.Block.{Block}
 use Rattle.nick.specs.declared.Pixel.{Pixel}
 use Rattle.nick.specs.declared.Pixel.the-variants.{Palette, Direct}
-use Rattle.colour.specs.Cell.{cellPixel, paletteNumber, paletteOf}
-use Rattle.colour.proofs.Cells.{graphics-pixel, character-pixel, attribute-pixel, sharing-halves, cell-below}
-use Rattle.fetch.specs.Fetches.{fetchedIn, fetchedAt, slotPixel}
+use Rattle.colour.specs.Cell.{paletteNumber, paletteOf}
+use Rattle.fetch.specs.Fetches.{fetchedAt, slotPixel}
+use Rattle.fetch.proofs.SlotDots.{slot-below, mode-dot, moved, counted, few}
 use Rattle.slots.specs.Shows.{pixelShown, plainDots, mixedDot, mixedDots, fetchedDots}
 use Rattle.slots.specs.Slots.{AnySlot}
 use Rattle.fetch.specs.declared.Fetched.{Fetched}
-
--- a slot's palette numbers are below 16, whatever its cells hold
-pub slot-below : (f : Fetched) (j : ℕ) → paletteNumber (slotPixel f j) < 16
-slot-below f j =
-    chosen (f .halves) (ltb j 8) (cellPixel (f .first) j) (cellPixel (f .second) (j - 8)) (cellPixel (f .first) (j / 2))
-    (cell-below (f .first) j) (cell-below (f .second) (j - 8)) (cell-below (f .first) (j / 2))
-  where
-    chosen : (t u : Bool) (x y z : Pixel) → paletteNumber x < 16 → paletteNumber y < 16 → paletteNumber z < 16 → paletteNumber (pick t (pick u x y) z) < 16
-    chosen true true x y z hx hy hz = hx
-    chosen true false x y z hx hy hz = hy
-    chosen false u x y z hx hy hz = hz
 
 -- with no external colour a pixel has its palette's colour
 pixel-plain : (g : Registers) (b : Block) (p : Pixel) → paletteNumber p < 16 → pixelShown (paletteOf g b) p ≡ mixedColour g b p 0
@@ -73,77 +47,6 @@ plain-mixed g b f palette external from e none =
 pub palette-length : (g : Registers) (b : Block) → length (paletteOf g b) ≡ 16
 unfolding paletteOf
 palette-length g b = length-tab (paletteColour g b) 16
-
-module _ (g : Registers) (ram : List ℕ) (b : Block) (p : Pointers) where
-  -- the pixel of a PIXEL slot: its byte by its half of the slot, its place in the byte by the rest
-  pixel-dot : (j : ℕ) → j < 16 → Dec (j < 8)
-      → slotPixel (fetchedIn PIXEL ram b p) j
-      ≡ graphicsPixel (coloursOf b) b (byteAt ram (getD (p .ld1 ∷ up 1 (p .ld1) ∷ []) (j / 8) 0)) (sharing (pixelsIn (coloursOf b)) 8 (j % 8))
-  pixel-dot j h (yes l) =
-      let half : j / 8 ≡ 0 = omega arith in
-      let rest : j % 8 ≡ j = omega arith in
-      rw (half, rest, lt-ltb j 8 l) (graphics-pixel b (byteAt ram (p .ld1)) j)
-  pixel-dot j h (no l) =
-      let half : j / 8 ≡ 1 = omega arith in
-      let rest : j % 8 ≡ j - 8 = omega arith in
-      rw (half, rest, le-ltb j 8 (omega arith)) (graphics-pixel b (byteAt ram (up 1 (p .ld1))) (j - 8))
-
-  -- a dot of a slot in a video mode
-  mode-dot : (active : Bool) (m : Mode) (j e : ℕ) → j < 16 → byteAt ram (p .ld1) < 256
-      → pick (eqb (fetchedAt active m ram b p .count) 0) (pick (syncs m) 0 (g .border)) (mixedColour g b (slotPixel (fetchedAt active m ram b p) j) e)
-      ≡ dotColour g b (dotIn m active b (coloursOf b) (map (byteAt ram) (dotAddresses m ram p j)) j) e
-  mode-dot false VSYNC j e h l = refl
-  mode-dot false PIXEL j e h l = refl
-  mode-dot false ATTR j e h l = refl
-  mode-dot false (CH width) j e h l = refl
-  mode-dot false UNUSED j e h l = refl
-  mode-dot false LPIXEL j e h l = refl
-  mode-dot true VSYNC j e h l = refl
-  mode-dot true PIXEL j e h l = ap (λ (q : Pixel). mixedColour g b q e) (pixel-dot j h (decLt j 8))
-  mode-dot true ATTR j e h l =
-      let attribute = byteAt ram (p .ld1) in
-      let byte = byteAt ram (p .ld2) in
-      ap (λ (q : Pixel). mixedColour g b q e)
-      (attribute-pixel attribute byte (j / 2) l ∙ ap (attributePixel attribute byte) (sym (sharing-halves two j)))
-  mode-dot true (CH width) j e h l =
-      let cs = coloursOf b in
-      let code = byteAt ram (p .ld1) in
-      let byte = byteAt ram (fontAddress width (p .ld2) code) in
-      ap (λ (q : Pixel). mixedColour g b q e)
-      (character-pixel b code byte (j / 2) ∙ ap (pixelOf cs (characterAdded b code) byte) (sym (sharing-halves cs j)))
-  mode-dot true UNUSED j e h l = refl
-  mode-dot true LPIXEL j e h l =
-      let cs = coloursOf b in
-      let byte = byteAt ram (p .ld1) in
-      ap (λ (q : Pixel). mixedColour g b q e) (graphics-pixel b byte (j / 2) ∙ ap (graphicsPixel cs b byte) (sym (sharing-halves cs j)))
-
-  -- the pointers after a slot, and how many bytes it fetches, at most two
-  moved : (active : Bool) (m : Mode) → fetchedAt active m ram b p .at ≡ pick active (slotPointers m p) p
-  moved false m = refl
-  moved true VSYNC = refl
-  moved true PIXEL = refl
-  moved true ATTR = refl
-  moved true (CH width) = refl
-  moved true UNUSED = refl
-  moved true LPIXEL = refl
-
-  counted : (active : Bool) (m : Mode) → fetchedAt active m ram b p .count ≡ length (pick active (slotFetches m ram p) [])
-  counted false m = refl
-  counted true VSYNC = refl
-  counted true PIXEL = refl
-  counted true ATTR = refl
-  counted true (CH width) = refl
-  counted true UNUSED = refl
-  counted true LPIXEL = refl
-
-  few : (active : Bool) (m : Mode) → fetchedAt active m ram b p .count ≤ 2
-  few false m = omega arith
-  few true VSYNC = omega arith
-  few true PIXEL = omega arith
-  few true ATTR = omega arith
-  few true (CH width) = omega arith
-  few true UNUSED = omega arith
-  few true LPIXEL = omega arith
 
 -- one value for all dots, or a value for each
 picked : (t : Bool) (x : ℕ) (f : ℕ → ℕ) → pick t (replicate 16 x) (tab f 16) ≡ tab (λ j. pick t x (f j)) 16

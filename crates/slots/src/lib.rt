@@ -1,13 +1,8 @@
-// One slot of a scanline: what it fetches and the sixteen dots it shows.
+// One slot of a scanline: the sixteen dots that it shows of what it fetches.
 ghost use mathlib.Core.Path.{_≡_};
 ghost use Prim.Native.Nat.{_<_, _≤_};
 ghost use lib.ListN.{length};
-ghost use Rattle.lists.specs.Choice.{pick};
-ghost use Rattle.nick.specs.Slots.{modeOf};
-ghost use Rattle.nick.specs.Scanline.{activeAt};
-ghost use Rattle.nick.specs.Sync.{syncs};
 ghost use Rattle.colour.specs.Cell.{paletteOf};
-ghost use Rattle.fetch.specs.Fetches.{fetchedAt};
 ghost use Rattle.slots.specs.Shows.{fetchedDots};
 ghost use Rattle.slots.specs.Slots.{AnySlot};
 
@@ -24,30 +19,6 @@ pub struct Slot {
     pub fetched: u8,
 }
 
-// What dot slot `n` fetches, active or not.
-fn fetch_slot(ram: &[u8], block: Block, n: usize, at: Pointers) -> Fetched
-    requires { ⌜ (length (now ram) ≡ 65536) × (n < 46) ⌝ }
-    ensures { λ r. ⌜ r ≡ fetchedAt (activeAt block n) (modeOf block) (now (ram .entry)) block at ⌝ }
-{
-    let slot = n as u16;
-    if walk::is_active(block, slot) {
-        fetch::fetch(ram, block, at)
-    } else {
-        fetch::no_fetch(at)
-    }
-}
-
-// The colour of a slot that fetches nothing: BORDER, but blank in VSYNC.
-pub fn outside(registers: Registers, block: Block) -> u8
-    ensures { λ r. ⌜ r ≡ pick (syncs (modeOf block)) 0 (registers .border) ⌝ }
-{
-    if block.mb / 2 % 8 == 0 {
-        0
-    } else {
-        registers.border
-    }
-}
-
 // Shows a slot, whether it fetched or not; its external bytes are from `from` on.
 fn show_slot(
     registers: Registers,
@@ -62,7 +33,7 @@ fn show_slot(
     ensures { λ r. ⌜ now (out .exit) ≡ fetchedDots registers block fetched (now (external .entry)) from ⌝ }
 {
     if fetched.count == 0 {
-        lists::fill(out, outside(registers, block))
+        lists::fill(out, fetch::unfetched(registers, block))
     } else {
         show::show(registers, palette, block, fetched, out, external, from)
     }
@@ -82,7 +53,7 @@ pub fn paint_slot(
     requires { ⌜ (now palette ≡ paletteOf registers block) × (length (now ram) ≡ 65536) × (n < 46) × (length (now out) ≡ 16) ⌝ }
     ensures { λ r. ⌜ AnySlot registers (now (ram .entry)) block n at (now (external .entry)) (now (out .exit)) r ⌝ }
 {
-    let fetched = fetch_slot(ram, block, n, at);
+    let fetched = fetch::fetch_slot(ram, block, n, at);
     show_slot(registers, palette, block, fetched, out, external, 16 * n);
     let at = fetched.at;
     Slot {

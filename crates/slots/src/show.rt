@@ -7,7 +7,6 @@ ghost use lib.ListN.{length, set, take, drop, replicate};
 ghost use Rattle.lists.specs.Choice.{pick};
 ghost use Rattle.nick.specs.Numbers.{bit, byteAt};
 ghost use Rattle.colour.specs.Cell.{paletteOf};
-ghost use Rattle.fetch.specs.Fetches.{slotPixel};
 ghost use Rattle.slots.specs.Shows.{
   runs,
   twoShown,
@@ -21,7 +20,6 @@ ghost use Rattle.slots.specs.Shows.{
 use colour::Cell;
 use fetch::Fetched;
 use nick::Block;
-use nick::Pixel;
 use nick::Registers;
 
 // Shows pixel `k` in its `run` dots.
@@ -142,20 +140,6 @@ fn show_plain(palette: &[u8], fetched: Fetched, out: &mut [u8])
     }
 }
 
-// The pixel that dot `j` of a slot shows.
-fn slot_pixel(fetched: Fetched, j: usize) -> Pixel
-    requires { ⌜ j < 16 ⌝ }
-    ensures { λ r. ⌜ r ≡ slotPixel fetched j ⌝ }
-{
-    if fetched.halves {
-        if j < 8 {
-            return colour::pixel_at(fetched.first, j as u8);
-        }
-        return colour::pixel_at(fetched.second, (j - 8) as u8);
-    }
-    colour::pixel_at(fetched.first, (j / 2) as u8)
-}
-
 // The external byte of a dot; 0 where nothing is connected.
 fn external_at(external: &[u8], i: usize) -> u8
     ensures { λ r. ⌜ r ≡ byteAt (now (external .entry)) i ⌝ }
@@ -176,7 +160,7 @@ fn show_dot(
     requires { ⌜ (length (now out) ≡ 16) × (j < 16) × (from ≤ 736) ⌝ }
     ensures { λ r. ⌜ now (out .exit) ≡ set (now (out .entry)) j (mixedDot registers block fetched (now (external .entry)) from j) ⌝ }
 {
-    let pixel = slot_pixel(fetched, j);
+    let pixel = fetch::pixel_at(fetched, j);
     let e = external_at(external, from + j);
     out[j] = colour::mixed_colour(registers, block, pixel, e);
 }

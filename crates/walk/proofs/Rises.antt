@@ -1,18 +1,18 @@
 -- Laws on how far the pointers go up, over the steps of the mode.
 use mathlib.Core.Path.{_≡_, refl, sym, ap, _∙_}
-use mathlib.Core.Bool.{Bool, true, false, _&&_}
-use Prim.Native.Nat.{ℕ, zero, suc, _+_, _-_, _*_, _%_, _<_, min}
+use mathlib.Core.Bool.{Bool, true, false}
+use Prim.Native.Nat.{ℕ, zero, suc, _+_, _*_, _%_, _<_}
 use native.Mathlib.Nat.{add-zero, add-assoc, mul-zero, mul-one, mul-add, mod-add-mod, mod-eq-of-lt}
 use native.Mathlib.Omega.{arith}
-use lib.Dec.{leb, ltb}
-use borrow.Author.Tests.{ltb-true, ltb-false, leb-true, leb-false}
 use Rattle.lists.specs.Choice.{number}
 use Rattle.nick.specs.Numbers.{up}
-use Rattle.nick.specs.Slots.{Mode, VSYNC, PIXEL, ATTR, CH, UNUSED, LPIXEL, leftMargin, rightMargin, modeOf, slotPointers, linePointers, activeSlots}
+use Rattle.nick.specs.Slots.{Mode, VSYNC, PIXEL, ATTR, CH, UNUSED, LPIXEL, modeOf, slotPointers, linePointers}
 use Rattle.nick.specs.Scanline.{activeAt, pastSlot, pointersAfter}
 use Rattle.nick.specs.declared.Pointers.{Pointers}
 use Rattle.nick.specs.declared.Block.{Block}
-use Rattle.walk.specs.Steps.{stepsOf, advanced, activeBefore, rise1, rise2}
+use Rattle.blocks.specs.ActiveSlots.{activeBefore}
+use Rattle.blocks.proofs.ActiveSlots.{active-none, active-more}
+use Rattle.walk.specs.Steps.{stepsOf, advanced, rise1, rise2}
 
 -- pointers of 16 bits
 pub record Sixteen (p : Pointers) : Type 0 where
@@ -64,26 +64,6 @@ line-advances LPIXEL p h = sym (advanced-none p h)
 pub past-slot : (t : Bool) (b : Block) (p : Pointers) → Sixteen p → pastSlot t b p ≡ advanced (stepsOf (modeOf b) .ld1 * number t) (stepsOf (modeOf b) .ld2 * number t) p
 past-slot true b p h = rw (mul-one, mul-one) (slot-advances (modeOf b) p h)
 past-slot false b p h = rw (mul-zero, mul-zero) (sym (advanced-none p h))
-
--- of the slots from l up to r, one more lies below 8 + n + 1 where slot 8 + n is one of them
-count-more : (l r n : ℕ) → min r (8 + suc n) - l ≡ min r (8 + n) - l + number (leb l (8 + n) && ltb (8 + n) r)
-count-more l r n = go (leb l (8 + n)) (ltb (8 + n) r) refl refl
-  where
-    go : (p q : Bool) → leb l (8 + n) ≡ p → ltb (8 + n) r ≡ q → min r (8 + suc n) - l ≡ min r (8 + n) - l + number (p && q)
-    go false q e f = omega (arith, leb-false l (8 + n) e)
-    go true false e f = omega (arith, ltb-false (8 + n) r f)
-    go true true e f = omega (arith, leb-true l (8 + n) e, ltb-true (8 + n) r f)
-
--- the active slots are counted slot by slot
-pub active-none : (b : Block) → activeBefore b 0 ≡ 0
-active-none b = omega arith
-
-pub active-more : (b : Block) (n : ℕ) → activeBefore b (suc n) ≡ activeBefore b n + number (activeAt b n)
-active-more b n = count-more (leftMargin b) (rightMargin b) n
-
--- all of them lie in the 46 dot slots
-pub active-all : (b : Block) → activeBefore b 46 ≡ activeSlots b
-active-all b = omega arith
 
 -- the pointers after the first n dot slots
 pub pointers-after : (b : Block) (n : ℕ) (p : Pointers) → Sixteen p → pointersAfter b n p ≡ advanced (rise1 b n) (rise2 b n) p

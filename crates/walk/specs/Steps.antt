@@ -1,14 +1,15 @@
 -- How far LD1 and LD2 go up in a slot, in a scanline, and in several scanlines of a mode line. Nothing here is a rule of the
 -- chip: crates/walk/proofs has the laws that tie it to the rules.
 use mathlib.Core.Path.{_≡_}
-use Prim.Native.Nat.{ℕ, _+_, _-_, _*_, _≤_, min}
+use Prim.Native.Nat.{ℕ, _+_, _-_, _*_, _≤_}
 use Rattle.lists.specs.Choice.{pick}
 use Rattle.nick.specs.Numbers.{up}
 use Rattle.nick.specs.Blocks.{vres}
-use Rattle.nick.specs.Slots.{Mode, VSYNC, PIXEL, ATTR, CH, UNUSED, LPIXEL, leftMargin, rightMargin, modeOf}
+use Rattle.nick.specs.Slots.{Mode, VSYNC, PIXEL, ATTR, CH, UNUSED, LPIXEL, modeOf}
 use Rattle.nick.specs.declared.Pointers.{Pointers}
 use Rattle.nick.specs.declared.Block.{Block}
 use Rattle.nick.specs.declared.Scan.{Scan}
+use Rattle.blocks.specs.ActiveSlots.{activeBefore}
 use Rattle.walk.specs.declared.Steps.{Steps}
 
 -- by how much LD1 and LD2 go up at an active slot, and LD2 at a scanline's end
@@ -30,10 +31,6 @@ pub record StepsOf (m : Mode) (r : Steps) : Type 0 where
 -- LD1 gone up by m and LD2 by n
 unfoldable pub advanced : ℕ → ℕ → Pointers → Pointers
 advanced m n p = record { ld1 = up m (p .ld1); ld2 = up n (p .ld2) }
-
--- how many of the first n dot slots are active
-abbrev pub activeBefore : Block → ℕ → ℕ
-activeBefore b n = min (rightMargin b) (8 + n) - leftMargin b
 
 -- by how much LD1 and LD2 go up in the first n dot slots
 abbrev pub rise1 : Block → ℕ → ℕ

@@ -1,15 +1,16 @@
 // The walk from line parameter block to line parameter block, and the pointers at a slot, with no scanline or slot stepped
 // singly.
 ghost use mathlib.Core.Path.{_≡_};
-ghost use Prim.Native.Nat.{_-_, _^_, _%_, _<_, _≤_, min};
+ghost use Prim.Native.Nat.{_<_, _≤_, min};
 ghost use lib.ListN.{length};
 ghost use Rattle.lists.specs.Choice.{pick};
 ghost use Rattle.nick.specs.Blocks.{vres};
-ghost use Rattle.nick.specs.Slots.{leftMargin, rightMargin, modeNumbered, fontAddress};
-ghost use Rattle.nick.specs.Scanline.{activeAt, pointersAfter};
-ghost use Rattle.walk.specs.Steps.{StepsOf, advanced, activeBefore, skipped};
+ghost use Rattle.nick.specs.Slots.{modeNumbered};
+ghost use Rattle.nick.specs.Scanline.{pointersAfter};
+ghost use Rattle.walk.specs.Steps.{StepsOf, advanced, skipped};
 ghost use Rattle.nick.specs.Refusals.{Formed};
 ghost use Rattle.walk.specs.Walks.{Reached, Turns};
+use blocks::active_before;
 use nick::Block;
 use nick::Pointers;
 use nick::Registers;
@@ -26,46 +27,6 @@ pub struct Steps {
 struct Turned {
     lines: usize,
     scan: Scan,
-}
-
-// The smaller of two numbers.
-fn smaller(a: u16, b: u16) -> u16
-    ensures { λ r. ⌜ r ≡ min a b ⌝ }
-{
-    if a < b { a } else { b }
-}
-
-// The first slot that may be active.
-pub fn left_margin(block: Block) -> u16
-    ensures { λ r. ⌜ (r ≡ leftMargin block) × (8 ≤ r) × (r < 64) ⌝ }
-{
-    let slot = block.lm as u16 % 64;
-    if slot < 8 { 8 } else { slot }
-}
-
-// The slot after the last that may be active.
-pub fn right_margin(block: Block) -> u16
-    ensures { λ r. ⌜ (r ≡ rightMargin block) × (r ≤ 54) ⌝ }
-{
-    smaller(block.rm as u16 % 64, 54)
-}
-
-// Whether a dot slot is active.
-pub fn is_active(block: Block, slot: u16) -> bool
-    requires { ⌜ slot ≤ 46 ⌝ }
-    ensures { λ r. ⌜ r ≡ activeAt block slot ⌝ }
-{
-    left_margin(block) <= 8 + slot && 8 + slot < right_margin(block)
-}
-
-// How many of the first `slots` dot slots are active.
-pub fn active_before(block: Block, slots: u16) -> u16
-    requires { ⌜ slots ≤ 46 ⌝ }
-    ensures { λ r. ⌜ (r ≡ activeBefore block slots) × (r ≤ 46) ⌝ }
-{
-    let left = left_margin(block);
-    let end = smaller(right_margin(block), 8 + slots);
-    if left < end { end - left } else { 0 }
 }
 
 // These steps.
@@ -178,31 +139,4 @@ pub fn walk(registers: Registers, ram: &[u8], scan: Scan, lines: usize) -> Scan
         done += turned.lines;
     }
     at
-}
-
-// 2 to the power n.
-fn power(n: u8) -> u32
-    requires { ⌜ n ≤ 16 ⌝ }
-    ensures { λ r. ⌜ (r ≡ 2 ^ n) × (1 ≤ r) × (r ≤ 65536) ⌝ }
-{
-    1u32 << n
-}
-
-// The row of the font that LD2 stands at, the codes having `width` bits.
-fn font_row(width: u8, ld2: u16) -> u32
-    requires { ⌜ (6 ≤ width) × (width ≤ 8) ⌝ }
-    ensures { λ r. ⌜ r ≡ ld2 % 2 ^ (16 - width) ⌝ }
-{
-    let rows = power(16 - width);
-    ld2 as u32 % rows
-}
-
-// The address of a character's display byte, its code having `width` bits.
-pub fn font_address(width: u8, ld2: u16, code: u8) -> u16
-    requires { ⌜ (6 ≤ width) × (width ≤ 8) ⌝ }
-    ensures { λ r. ⌜ r ≡ fontAddress width ld2 code ⌝ }
-{
-    let row = font_row(width, ld2);
-    let characters = power(width);
-    (row * characters + code as u32 % characters) as u16
 }

@@ -11,8 +11,8 @@ use Rattle.scanline.proofs.paint_slots.Tie as tie
 slots-byte-requires : tie.Need-slots-byte-requires
 slots-byte-requires c κs = search needs
 
-outside-requires : tie.Need-outside-requires
-outside-requires c κs = search needs
+unfetched-requires : tie.Need-unfetched-requires
+unfetched-requires c κs = search needs
 
 fill-requires : tie.Need-fill-requires
 fill-requires c κs = search needs
@@ -26,7 +26,7 @@ returns c =
     let ext = byteAt (a .external .now) in
     let none : fetchingSlots (a .begun .block) ≡ 0 = sym (c .before .before .before .before .before .before .before .slots-byte .ensures) ∙ c .before .before .before .before .before .before .if1 .taken in
     record {
-      dots = c .before .before .before .fill .ensures ∙ rw (c .before .before .before .before .outside .ensures) (idle-dots (a .registers) (a .ram .now) (a .begun) ext none _ (c .before .before .before .before .before .before .before .before .before .before .before .before .pre .1));
+      dots = c .before .before .before .fill .ensures ∙ rw (c .before .before .before .before .unfetched .ensures) (idle-dots (a .registers) (a .ram .now) (a .begun) ext none _ (c .before .before .before .before .before .before .before .before .before .before .before .before .pre .1));
       at = idle-at (a .registers) (a .ram .now) (a .begun) ext none;
       fetched = idle-fetches (a .registers) (a .ram .now) (a .begun) ext none;
       few = omega arith;
@@ -55,7 +55,7 @@ paint-slots-spec =
     tie.close
     (tie.spec
     slots-byte-requires
-    outside-requires
+    unfetched-requires
     fill-requires
     same-length
     returns

@@ -6,8 +6,8 @@ use borrow.Author.Needs.{needs}
 use Rattle.slots.proofs.show_slot.Statement.{statement}
 use Rattle.slots.proofs.show_slot.Tie as tie
 
-outside-requires : tie.Need-outside-requires
-outside-requires c κs = search needs
+unfetched-requires : tie.Need-unfetched-requires
+unfetched-requires c κs = search needs
 
 fill-requires : tie.Need-fill-requires
 fill-requires c κs = search needs
@@ -22,7 +22,7 @@ returns : tie.Need-returns
 unfolding fetchedDots
 returns c =
     let a = c .before .before .before .before .before .before .before .before .before .before .args in
-    rw (eq-eqb (a .fetched .count) 0 (c .before .before .before .before .before .if1 .taken)) (c .before .before .fill .ensures ∙ rw (c .before .before .before .before .before .before .before .before .before .before .pre .1, c .before .before .before .outside .ensures))
+    rw (eq-eqb (a .fetched .count) 0 (c .before .before .before .before .before .if1 .taken)) (c .before .before .fill .ensures ∙ rw (c .before .before .before .before .before .before .before .before .before .before .pre .1, c .before .before .before .unfetched .ensures))
 
 same-length-2 : tie.Need-same-length-2
 same-length-2 c = search needs
@@ -37,7 +37,7 @@ pub show-slot-spec : {M : Type 1} → statement M
 show-slot-spec =
     tie.close
     (tie.spec
-    outside-requires
+    unfetched-requires
     fill-requires
     show-requires
     same-length

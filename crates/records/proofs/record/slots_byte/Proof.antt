@@ -4,7 +4,7 @@ use Prim.Native.Nat.{_/_, _%_}
 use borrow.Author.Tests.{eq-eqb, ne-eqb}
 use native.Mathlib.Omega.{arith}
 use Rattle.nick.proofs.Modes.{fetches-but}
-use Rattle.walk.proofs.Rises.{active-all}
+use Rattle.blocks.proofs.ActiveSlots.{active-all}
 use borrow.Author.Needs.{needs}
 use Rattle.records.proofs.record.slots_byte.Statement.{statement}
 use Rattle.records.proofs.record.slots_byte.Tie as tie

@@ -1,0 +1,2 @@
+pub mod FontAddresses
+pub mod SlotDots
