@@ -16,7 +16,7 @@ use Rattle.nick.specs.Scanline.{scanAfter}
 use Rattle.nick.specs.Record.{stateAfter}
 use Rattle.nick.specs.Refusals.{Formed, directRefusal}
 use Rattle.nick.specs.Painting.{Painting, externalAt, frameDots}
-use Rattle.nick.specs.Direct.{direct, directColour, directNames, colour}
+use Rattle.nick.specs.Direct.{shows, direct, directColour, directNames}
 use Rattle.nick.specs.declared.State.{State}
 use Rattle.nick.proofs.WellFormed.{not-ill-formed}
 use Rattle.claims.specs.Demand3.{Call, oneLine, lines, heightOf, externalOf, paintingOf, Made, madeOf, run, linesOf, linesIn, placeOf, PaintsLine, AnsweredDirectly, Demand3, EveryLine}
@@ -110,7 +110,7 @@ demand3 s ram calls before m after y x reach e p =
     (frame-direct s ram external b h (y - b) x (omega (arith, p .last, p .first)) (omega (arith, reach .1))
     ∙ ap (λ (n : ℕ). directColour s ram n x (byteAt external place)) line) in
     answered-directly s ram y x (byteAt external place) (not-ill-formed (s .scan) (r .formed (p .accepted))) (l .full accepted) reach
-    ∙ ap (λ (k : ℕ). colour k (directNames s ram y x)) (sym dot)
+    ∙ ap (λ (k : ℕ). shows (record { colour = k; names = directNames s ram y x })) (sym dot)
 
 -- a painting that adds a line is accepted
 adds-line : (m : Made) (y : ℕ) → y < linesOf m → PaintsLine [] m y

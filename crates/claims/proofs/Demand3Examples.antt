@@ -14,7 +14,7 @@ use Rattle.nick.specs.Sync.{lineSync}
 use Rattle.nick.specs.Record.{nextState}
 use Rattle.nick.specs.Refusals.{paintingRefusal}
 use Rattle.nick.specs.Painting.{painted, refusedPainting, paint}
-use Rattle.nick.specs.Direct.{direct, directColour, directNames, dependsOn, colour}
+use Rattle.nick.specs.Direct.{Answered, shows, direct, directColour, directNames, dependsOn}
 use Rattle.nick.specs.declared.State.{State}
 use Rattle.claims.specs.Demand3.{Call, oneLine, lines, paintingOf, Made, madeOf, run}
 use Rattle.claims.proofs.Demand3.{answered-directly, demand3}
@@ -87,12 +87,15 @@ unfolding
     painted refusedPainting paint
 refusals = refl
 
+abbrev shown : ℕ → List ℕ → Answered
+shown c named = shows (record { colour = c; names = named })
+
 -- demand 3 gives the painted dots: in line 1, the second of the first frame; in line 2, the single one; and in line 4, the
 -- second of the last frame, where external input wins
 pub answers :
-    (direct freshState ram 1 40 0 ≡ colour 11 (69 ∷ []))
-    × (direct freshState ram 2 48 0 ≡ colour 21 (81 ∷ 259 ∷ []))
-    × (direct freshState ram 4 32 135 ≡ colour 27 (80 ∷ 771 ∷ []))
+    (direct freshState ram 1 40 0 ≡ shown 11 (69 ∷ []))
+    × (direct freshState ram 2 48 0 ≡ shown 21 (81 ∷ 259 ∷ []))
+    × (direct freshState ram 4 32 135 ≡ shown 27 (80 ∷ 771 ∷ []))
 unfolding
     loadedNumber decoded blockAt loaded continued begun modeNumbered fontAddress coloursNumbered graphicsAdded graphicsByte
     characterAdded paletteColour priorityGives mixedColour slotDots begunDots lineDots ended nextScan lineSync nextState
@@ -107,7 +110,7 @@ answers = (
 )
 
 -- the last line that can be asked about, with nothing painted: the second row of its character's font
-pub last-line : direct freshState ram 1023 34 0 ≡ colour 21 (80 ∷ 515 ∷ [])
+pub last-line : direct freshState ram 1023 34 0 ≡ shown 21 (80 ∷ 515 ∷ [])
 unfolding
     loadedNumber decoded blockAt loaded continued begun modeNumbered fontAddress coloursNumbered characterAdded paletteColour
     mixedColour slotDots begunDots lineDots ended nextScan directColour directNames
@@ -124,7 +127,7 @@ depends = refl
 abbrev other : List ℕ
 other = (254 ∷ 18 ∷ replicate 14 9) ++ characterBlock ++ replicate 48 9 ++ text
 
-pub same-answer : direct freshState other 4 32 135 ≡ colour 27 (80 ∷ 771 ∷ [])
+pub same-answer : direct freshState other 4 32 135 ≡ shown 27 (80 ∷ 771 ∷ [])
 unfolding
     loadedNumber decoded blockAt blockAddresses loaded continued begun modeNumbered fontAddress ended nextScan directNames
     dependsOn

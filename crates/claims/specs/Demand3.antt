@@ -10,7 +10,7 @@ use Rattle.lists.specs.Choice.{pick}
 use Rattle.nick.specs.Numbers.{byteAt}
 use Rattle.nick.specs.Painting.{Painting, paint, paintLine}
 use Rattle.nick.specs.Refusals.{illFormed}
-use Rattle.nick.specs.Direct.{answered, direct, directColour, directNames, dependsOn, colour}
+use Rattle.nick.specs.Direct.{answered, shows, direct, directNames, directShown, dependsOn}
 use Rattle.nick.specs.declared.State.{State}
 use Rattle.nick.specs.declared.Answer.{Answer}
 
@@ -81,7 +81,7 @@ AnsweredDirectly =
     → illFormed (s .scan) ≡ false
     → length ram ≡ 65536
     → InReach y x
-    → direct s ram y x e ≡ colour (directColour s ram y x e) (directNames s ram y x)
+    → direct s ram y x e ≡ shows (directShown s ram y x e)
 
 -- The direct answer is the painted dot: from whatever state and RAM, and whatever calls are made, the painting of line y holds
 -- at dot x the colour of the direct answer, which is no refusal and names the rules' addresses.
@@ -94,7 +94,7 @@ Demand3 =
     → run s ram calls ≡ before ++ (m ∷ after)
     → PaintsLine before m y
     → direct s ram y x (byteAt (externalOf (m .call)) (placeOf (linesIn before) y x))
-    ≡ colour (byteAt (m .dots) (placeOf (linesIn before) y x)) (directNames s ram y x)
+    ≡ shows (record { colour = byteAt (m .dots) (placeOf (linesIn before) y x); names = directNames s ram y x })
 
 -- Demand 3 speaks of every line: each line that a list paints is the line of one accepted painting in it.
 abbrev pub EveryLine : Type 0

@@ -15,7 +15,7 @@ use Rattle.nick.specs.External.{dotColour, mixedColour}
 use Rattle.nick.specs.Scanline.{activeAt, pointersAfter, scanAfter}
 use Rattle.nick.specs.Sync.{syncs}
 use Rattle.nick.specs.Refusals.{illFormed, notFull, badPlace, directRefusal}
-use Rattle.nick.specs.Direct.{colour, refused, addressesOf, directColour, directNames, direct}
+use Rattle.nick.specs.Direct.{shows, refused, addressesOf, directColour, directNames, direct}
 use Rattle.nick.specs.declared.Registers.{Registers}
 use Rattle.nick.specs.declared.Pointers.{Pointers}
 use Rattle.nick.specs.declared.Block.{Block}
@@ -34,7 +34,10 @@ fetched-answer :
     → j < 16
     → byteAt ram (p .ld1) < 256
     → fetchedAnswer g b (fetchedAt active m ram b p) j e
-    ≡ colour (dotColour g b (dotIn m active b (coloursOf b) (map (byteAt ram) (dotAddresses m ram p j)) j) e) (pick active (dotAddresses m ram p j) [])
+    ≡ shows (record {
+      colour = dotColour g b (dotIn m active b (coloursOf b) (map (byteAt ram) (dotAddresses m ram p j)) j) e;
+      names = pick active (dotAddresses m ram p j) [];
+    })
 unfolding fetchedAnswer
 fetched-answer g ram b p active m j e is h l =
     rw (← is) (go (eqb (fetchedAt active m ram b p .count) 0) refl (mode-dot g ram b p active m j e h l))
@@ -44,9 +47,15 @@ fetched-answer g ram b p active m j e is h l =
         → eqb (fetchedAt active m ram b p .count) 0 ≡ t
         → pick t (pick (syncs m) 0 (g .border)) (mixedColour g b (slotPixel (fetchedAt active m ram b p) j) e)
         ≡ dotColour g b (dotIn m active b (coloursOf b) (map (byteAt ram) (dotAddresses m ram p j)) j) e
-        → pick t (colour (pick (syncs m) 0 (g .border)) [])
-        (colour (mixedColour g b (slotPixel (fetchedAt active m ram b p) j) e) (addressesOf (slotSources (fetchedAt active m ram b p) j)))
-        ≡ colour (dotColour g b (dotIn m active b (coloursOf b) (map (byteAt ram) (dotAddresses m ram p j)) j) e) (pick active (dotAddresses m ram p j) [])
+        → pick t (shows (record { colour = pick (syncs m) 0 (g .border); names = [] }))
+        (shows (record {
+          colour = mixedColour g b (slotPixel (fetchedAt active m ram b p) j) e;
+          names = addressesOf (slotSources (fetchedAt active m ram b p) j);
+        }))
+        ≡ shows (record {
+          colour = dotColour g b (dotIn m active b (coloursOf b) (map (byteAt ram) (dotAddresses m ram p j)) j) e;
+          names = pick active (dotAddresses m ram p j) [];
+        })
     go true z q = rw (q, unnamed g ram b p active m j (eqb-true (fetchedAt active m ram b p .count) 0 z))
     go false z q = rw (q, named g ram b p active m j h)
 

@@ -7,7 +7,7 @@ use Rattle.nick.specs.Slots.{modeOf}
 use Rattle.nick.specs.External.{dotColour, mixedColour}
 use Rattle.nick.specs.Scanline.{activeAt, pointersAfter, dotAt}
 use Rattle.nick.specs.Sync.{syncs}
-use Rattle.nick.specs.Direct.{Answered, colour, addressesOf, namedIn}
+use Rattle.nick.specs.Direct.{Answered, shows, addressesOf, namedIn}
 use Rattle.nick.specs.declared.Registers.{Registers}
 use Rattle.nick.specs.declared.Block.{Block}
 use Rattle.nick.specs.declared.Scan.{Scan}
@@ -18,12 +18,12 @@ use Rattle.fetch.specs.declared.Fetched.{Fetched}
 unfoldable pub fetchedAnswer : Registers → Block → Fetched → ℕ → ℕ → Answered
 fetchedAnswer g b f j e =
     pick (eqb (f .count) 0)
-    (colour (pick (syncs (modeOf b)) 0 (g .border)) [])
-    (colour (mixedColour g b (slotPixel f j) e) (addressesOf (slotSources f j)))
+    (shows (record { colour = pick (syncs (modeOf b)) 0 (g .border); names = [] }))
+    (shows (record { colour = mixedColour g b (slotPixel f j) e; names = addressesOf (slotSources f j) }))
 
 -- dot x of a scanline that has begun as c says, by the rules
 unfoldable pub dotAnswer : Registers → List ℕ → Scan → ℕ → ℕ → Answered
 dotAnswer g ram c x e =
     let b = c .block in
     let p = pointersAfter b (x / 16) (c .at) in
-    colour (dotColour g b (dotAt (activeAt b (x / 16)) ram b p (x % 16)) e) (namedIn ram c x)
+    shows (record { colour = dotColour g b (dotAt (activeAt b (x / 16)) ram b p (x % 16)) e; names = namedIn ram c x })

@@ -2,7 +2,7 @@
 use mathlib.Core.Path.{_≡_, refl, sym, ap, _∙_}
 use mathlib.Core.List.{List, [], _∷_}
 use Prim.Native.Nat.{ℕ}
-use Rattle.nick.specs.Direct.{Answered, refused, colour, addressesOf, answered}
+use Rattle.nick.specs.Direct.{Answered, refused, shows, addressesOf, answered}
 use Rattle.nick.specs.Listing.{ListAnswered, listRefused, listLength, listAnswered}
 use Rattle.nick.specs.declared.Sources.{Sources}
 use Rattle.nick.specs.declared.Sources.the-variants.{Nothing, One, Two}
@@ -23,7 +23,7 @@ sources-back (Two a b) = refl
 
 abbrev answerFrom : Answered → Answer
 answerFrom (refused n) = Refused n
-answerFrom (colour c named) = Colour c (sourcesFrom named)
+answerFrom (shows dot) = Colour (dot .colour) (sourcesFrom (dot .names))
 
 answer-back : (a : Answer) → answerFrom (answered a) ≡ a
 answer-back (Refused n) = refl

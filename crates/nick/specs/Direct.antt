@@ -16,10 +16,15 @@ use Rattle.nick.specs.declared.Sources.the-variants.{Nothing, One, Two}
 use Rattle.nick.specs.declared.Answer.{Answer}
 use Rattle.nick.specs.declared.Answer.the-variants.{Refused, Colour}
 
+-- what is said of a dot: its colour, and the addresses that it comes from
+pub record Shown : Type 0 where
+  pub colour : ℕ
+  pub names : List ℕ
+
 -- what a direct answer says: "A refused direct answer carries the number and no colour."
 pub data Answered : Type 0 where
   refused : ℕ → Answered
-  colour : ℕ → List ℕ → Answered
+  shows : Shown → Answered
 
 -- the addresses that each case of the answer names, in order
 abbrev pub addressesOf : Sources → List ℕ
@@ -30,7 +35,7 @@ addressesOf (Two a b) = a ∷ b ∷ []
 -- the number, or the colour and the addresses, of each case of the answer
 abbrev pub answered : Answer → Answered
 answered (Refused n) = refused n
-answered (Colour c named) = colour c (addressesOf named)
+answered (Colour c named) = shows (record { colour = c; names = addressesOf named })
 
 -- "The rules' colour of line y, dot x: run the scanline rules y + 1 times from the state given; it is dot x of the last, with
 -- that external byte."
@@ -49,11 +54,15 @@ namedIn ram c x =
 unfoldable pub directNames : State → List ℕ → ℕ → ℕ → List ℕ
 directNames s ram y x = namedIn ram (begun (s .registers) ram (scanAfter (s .registers) ram y (s .scan))) x
 
+-- what the rules say of line y, dot x
+abbrev pub directShown : State → List ℕ → ℕ → ℕ → ℕ → Shown
+directShown s ram y x e = record { colour = directColour s ram y x e; names = directNames s ram y x }
+
 -- the direct answer
 unfoldable pub direct : State → List ℕ → ℕ → ℕ → ℕ → Answered
 direct s ram y x e =
     let n = directRefusal s ram y x in
-    pick (eqb n 0) (colour (directColour s ram y x e) (directNames s ram y x)) (refused n)
+    pick (eqb n 0) (shows (directShown s ram y x e)) (refused n)
 
 -- the number of the block that the next scanline loads, if it loads one
 abbrev pub loadOf : Registers → Scan → List ℕ

@@ -5,7 +5,7 @@ use mathlib.Core.Path.{_≡_}
 use mathlib.Core.List.{List, [], _∷_, _++_}
 use lib.ListN.{length}
 use Rattle.nick.specs.Numbers.{byteAt}
-use Rattle.nick.specs.Direct.{directNames, colour}
+use Rattle.nick.specs.Direct.{shows, directNames}
 use Rattle.claims.specs.Demand3.{Call, oneLine, lines, externalOf, Made, linesIn, placeOf, PaintsLine, InReach}
 use Rattle.encoding.specs.Encoding.{stateOf}
 use Rattle.packing.specs.Packed.{packedAnswer}
@@ -32,4 +32,5 @@ Demand3Bytes =
     → runBytes b ram calls ≡ before ++ (m ∷ after)
     → PaintsLine before m y
     → packedDot b ram y x (byteAt (externalOf (m .call)) (placeOf (linesIn before) y x))
-    ≡ packedAnswer (colour (byteAt (m .dots) (placeOf (linesIn before) y x)) (directNames (stateOf b) ram y x))
+    ≡ packedAnswer
+    (shows (record { colour = byteAt (m .dots) (placeOf (linesIn before) y x); names = directNames (stateOf b) ram y x }))

@@ -9,29 +9,29 @@ use lib.ListN.{length}
 use borrow.Author.Tests.{eqb-true}
 use Rattle.lists.specs.Choice.{pick}
 use Rattle.nick.specs.Refusals.{directRefusal}
-use Rattle.nick.specs.Direct.{Answered, colour, refused, directColour, directNames, direct}
+use Rattle.nick.specs.Direct.{Shown, Answered, shows, refused, directShown, direct}
 use Rattle.nick.specs.declared.State.{State}
 use Rattle.nick.proofs.Refusals.{answerable}
 use Rattle.files.specs.Writes.{writtenBy, afterWrites}
 use Rattle.nickdot.specs.Answers.{answerAfter}
 
 -- a colour is answered only where the number is 0, and is then the other answer
-coloured : (n c : ℕ) (ns : List ℕ) (a : Answered) → colour c ns ≡ pick (eqb n 0) a (refused n) → (n ≡ 0) × (colour c ns ≡ a)
-coloured n c ns a e = go (eqb n 0) refl e
+coloured : (n : ℕ) (d : Shown) (a : Answered) → shows d ≡ pick (eqb n 0) a (refused n) → (n ≡ 0) × (shows d ≡ a)
+coloured n d a e = go (eqb n 0) refl e
   where
-    go : (t : Bool) → eqb n 0 ≡ t → colour c ns ≡ pick t a (refused n) → (n ≡ 0) × (colour c ns ≡ a)
+    go : (t : Bool) → eqb n 0 ≡ t → shows d ≡ pick t a (refused n) → (n ≡ 0) × (shows d ≡ a)
     go true h l = (eqb-true n 0 h, l)
     go false h l = let z : _≡_ {A = ℕ} 0 1 = cc in absurd (omega arith)
 
-colour-full : (s : State) (ram : List ℕ) (y x e c : ℕ) (ns : List ℕ) → colour c ns ≡ direct s ram y x e → length ram ≡ 65536
+colour-full : (s : State) (ram : List ℕ) (y x e : ℕ) (d : Shown) → shows d ≡ direct s ram y x e → length ram ≡ 65536
 unfolding direct
-colour-full s ram y x e c ns h =
-    let none = coloured (directRefusal s ram y x) c ns (colour (directColour s ram y x e) (directNames s ram y x)) h .0 in
+colour-full s ram y x e d h =
+    let none = coloured (directRefusal s ram y x) d (shows (directShown s ram y x e)) h .0 in
     answerable s ram y x none .full
 
 pub full-after :
-    (writes ram : List ℕ) (y x e c : ℕ) (ns : List ℕ) → colour c ns ≡ answerAfter writes ram y x e → length ram ≡ 65536
+    (writes ram : List ℕ) (y x e : ℕ) (d : Shown) → shows d ≡ answerAfter writes ram y x e → length ram ≡ 65536
 unfolding afterWrites
-full-after writes ram y x e c ns h =
+full-after writes ram y x e d h =
     let w = writtenBy writes in
-    colour-full (w .state) ram y x e c ns (coloured (w .refusal) c ns (direct (w .state) ram y x e) h .1)
+    colour-full (w .state) ram y x e d (coloured (w .refusal) d (direct (w .state) ram y x e) h .1)

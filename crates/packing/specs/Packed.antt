@@ -3,7 +3,7 @@ use Prim.Native.Nat.{ℕ, _+_, _*_, _^_}
 use mathlib.Core.List.{List}
 use lib.ListN.{length}
 use Rattle.nick.specs.Numbers.{byteAt}
-use Rattle.nick.specs.Direct.{Answered, refused, colour}
+use Rattle.nick.specs.Direct.{Answered, refused, shows}
 use Rattle.nick.specs.Listing.{ListAnswered, listRefused, listLength}
 use Rattle.nick.specs.declared.Levels.{Levels}
 
@@ -14,7 +14,7 @@ packedAddresses named = 2 ^ 16 * length named + 2 ^ 24 * byteAt named 0 + 2 ^ 40
 -- bits 0 to 7 the refusal, 8 to 15 the colour
 abbrev pub packedAnswer : Answered → ℕ
 packedAnswer (refused n) = n
-packedAnswer (colour c named) = 2 ^ 8 * c + packedAddresses named
+packedAnswer (shows dot) = 2 ^ 8 * dot .colour + packedAddresses (dot .names)
 
 -- a listing's length; none where it is refused
 abbrev pub lengthOf : ListAnswered → ℕ

@@ -25,7 +25,7 @@ print-sources-requires : tie.Need-print-sources-requires
 print-sources-requires c κs =
     let a = c .before .before .before .before .before .before .before .args in
     let shown : answered (c .before .before .before .before .answer .result) ≡ _ = ap answered (c .before .before .colour .given .1) in
-    full-after (a .writes .now) (a .ram .now) (a .line) (a .dot) (a .external) _ _ (sym shown ∙ c .before .before .before .before .answer .ensures)
+    full-after (a .writes .now) (a .ram .now) (a .line) (a .dot) (a .external) _ (sym shown ∙ c .before .before .before .before .answer .ensures)
 
 returns : tie.Need-returns
 returns c = search needs
