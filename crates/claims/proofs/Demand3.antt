@@ -3,7 +3,7 @@
 use mathlib.Core.Path.{_≡_, refl, sym, ap, _∙_}
 use mathlib.Core.Bool.{Bool, true, false}
 use mathlib.Core.List.{List, [], _∷_, _++_}
-use Prim.Native.Nat.{ℕ, _+_, _-_, _*_, _≤_, _<_}
+use Prim.Native.Nat.{ℕ, _+_, _-_, _*_, _<_}
 use native.Mathlib.Nat.{not-suc-le-zero}
 use native.Mathlib.Decide.{decLt}
 use native.Mathlib.Omega.{arith}
@@ -20,10 +20,10 @@ use Rattle.nick.specs.Direct.{shows, direct, directColour, directNames}
 use Rattle.nick.specs.declared.State.{State}
 use Rattle.nick.proofs.WellFormed.{not-ill-formed}
 use Rattle.claims.specs.Demand3.{Call, oneLine, lines, heightOf, externalOf, paintingOf, Made, madeOf, run, linesOf, linesIn, placeOf, PaintsLine, AnsweredDirectly, Demand3, EveryLine}
-use Rattle.claims.proofs.Scanlines.{scan-add, state-add, registers-kept, scan-of-state}
-use Rattle.claims.proofs.Slots.{own-external}
-use Rattle.claims.proofs.Frames.{frame-dot}
-use Rattle.claims.proofs.Paintings.{Leaves, paint-leaves}
+use Rattle.laws.proofs.StatesAfter.{scan-add, state-add, registers-kept, scan-of-state}
+use Rattle.laws.proofs.LineDots.{own-external}
+use Rattle.laws.proofs.Frames.{frame-dot}
+use Rattle.laws.proofs.Paintings.{Leaves, paint-leaves}
 
 call-leaves : (s : State) (ram : List ℕ) (c : Call) → Leaves s ram (heightOf c) (externalOf c) (paintingOf s ram c)
 call-leaves s ram (oneLine dots records external) = paint-leaves s ram 1 dots records external

@@ -1,8 +1,3 @@
-pub mod Rows
-pub mod Scanlines
-pub mod Slots
-pub mod Frames
-pub mod Paintings
 pub mod Records
 pub mod WellFormed
 pub mod InsideRam

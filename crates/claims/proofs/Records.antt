@@ -7,7 +7,7 @@ use Prim.Native.Nat.{ℕ, zero, suc, _*_, _≤_, _<_}
 use native.Mathlib.Nat.{add-zero}
 use native.Mathlib.Omega.{arith}
 use lib.ListN.{length, length-append, getD-replicate}
-use Rattle.lists.specs.Choice.{pick, number}
+use Rattle.lists.specs.Choice.{pick}
 use Rattle.lists.proofs.Tests.{number-le}
 use Rattle.nick.specs.Sizes.{recordBytes}
 use Rattle.nick.specs.Numbers.{bit, byteAt}
@@ -22,8 +22,8 @@ use Rattle.nick.specs.declared.Pointers.{Pointers}
 use Rattle.nick.specs.declared.Block.{Block}
 use Rattle.nick.specs.declared.Scan.{Scan}
 use Rattle.nick.specs.declared.State.{State}
-use Rattle.claims.proofs.Frames.{record-byte}
-use Rattle.claims.proofs.Paintings.{refusal-is, accepted-is, refused-is}
+use Rattle.laws.proofs.Frames.{record-byte}
+use Rattle.laws.proofs.Paintings.{refusal-is, accepted-is, refused-is}
 
 flags-below : (b : Block) (wasLow load last : Bool) → flags b wasLow load last < 64
 unfolding flags

@@ -9,8 +9,8 @@ use Rattle.nick.specs.Refusals.{Formed}
 use Rattle.nick.specs.Painting.{paint}
 use Rattle.nick.specs.declared.State.{State}
 use Rattle.nick.proofs.WellFormed.{formed-after}
-use Rattle.claims.proofs.Scanlines.{registers-kept, scan-of-state}
-use Rattle.claims.proofs.Paintings.{paint-leaves}
+use Rattle.laws.proofs.StatesAfter.{registers-kept, scan-of-state}
+use Rattle.laws.proofs.Paintings.{paint-leaves}
 
 state-formed :
     (ram : List ℕ) (n : ℕ) (s : State) → s .registers .lpl < 256 → Formed (s .scan)

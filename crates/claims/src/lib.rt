@@ -1,1 +1,1 @@
-// Theorems about the rules of crate nick: specs/ holds the statements, proofs/ the laws and the proofs. There is no code.
+// The theorems about the rules of crate nick: specs/ holds the statements, proofs/ their proofs. There is no code.

@@ -21,7 +21,7 @@ use Rattle.nick.specs.declared.Pointers.{Pointers}
 use Rattle.nick.specs.declared.Block.{Block}
 use Rattle.nick.specs.declared.Scan.{Scan}
 use Rattle.nick.specs.declared.State.{State}
-use Rattle.claims.proofs.Slots.{line-dot}
+use Rattle.laws.proofs.LineDots.{line-dot}
 use Rattle.fetch.specs.Fetches.{fetchedAt, slotPixel, slotSources}
 use Rattle.fetch.specs.declared.Fetched.{Fetched}
 use Rattle.fetch.proofs.SlotDots.{mode-dot, named, unnamed}

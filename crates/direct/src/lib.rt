@@ -1,6 +1,6 @@
 // The direct answer: one dot's colour and the addresses that it comes from, without painting.
 ghost use mathlib.Core.Path.{_≡_};
-ghost use Prim.Native.Nat.{_<_, _≤_};
+ghost use Prim.Native.Nat.{_<_};
 ghost use lib.ListN.{length};
 ghost use Rattle.nick.specs.Blocks.{begun};
 ghost use Rattle.nick.specs.Scanline.{scanAfter};

@@ -11,7 +11,7 @@ use Rattle.lists.specs.Choice.{pick}
 use Rattle.nick.specs.Record.{stateAfter}
 use Rattle.nick.specs.Painting.{Painting, paint}
 use Rattle.claims.specs.Demand3.{Call, oneLine, lines, paintingOf, run}
-use Rattle.claims.proofs.Paintings.{paint-leaves}
+use Rattle.laws.proofs.Paintings.{paint-leaves}
 use Rattle.claims.proofs.Demand3.{demand3}
 use Rattle.encoding.specs.Encoding.{encoded, stateOf}
 use Rattle.packing.specs.Packed.{packedAnswer}

@@ -12,9 +12,9 @@ use Rattle.nick.specs.Record.{lineRecord, nextState, stateAfter}
 use Rattle.nick.specs.Refusals.{Formed, paintingRefusal}
 use Rattle.nick.specs.Painting.{externalAt, frameDots, frameRecords, painted, refusedPainting}
 use Rattle.nick.specs.declared.State.{State}
-use Rattle.claims.proofs.Scanlines.{registers-kept}
-use Rattle.claims.proofs.Frames.{length-dots, length-records}
-use Rattle.claims.proofs.Paintings.{accepted-is, refused-is}
+use Rattle.laws.proofs.StatesAfter.{registers-kept}
+use Rattle.laws.proofs.Frames.{length-dots, length-records}
+use Rattle.laws.proofs.Paintings.{accepted-is, refused-is}
 use Rattle.painting.specs.Frames.{NextLine, Frame, Paints}
 
 -- what a loop over the lines keeps: after y of h lines from s, these are painted, and the rest of both buffers is as it was

@@ -14,7 +14,7 @@ use Rattle.nick.specs.Scanline.{lineDots}
 use Rattle.nick.specs.Painting.{externalAt}
 use Rattle.nick.specs.declared.Registers.{Registers}
 use Rattle.nick.specs.declared.Scan.{Scan}
-use Rattle.claims.proofs.Slots.{slotColour, length-line, line-dot}
+use Rattle.laws.proofs.LineDots.{slotColour, length-line, line-dot}
 
 -- byte x of the part that starts at a and has w bytes, as far as the list goes
 part-byte : (e : List ℕ) (a w from to x : ℕ) → from ≡ min a (length e) → to ≡ min (a + w) (length e) → x < w

@@ -7,7 +7,7 @@ use native.Mathlib.Omega.{arith}
 use lib.ListN.{length, take, drop, length-append}
 use Rattle.lists.proofs.Laws.{lent, front-all}
 use Rattle.nick.specs.Scanline.{activeAt, pointersAfter, slotAddresses, slotsFetched, slotDots, slotsDots, begunDots}
-use Rattle.claims.proofs.Slots.{length-slots}
+use Rattle.laws.proofs.LineDots.{length-slots}
 use Rattle.nick.specs.declared.Registers.{Registers}
 use Rattle.nick.specs.declared.Pointers.{Pointers}
 use Rattle.nick.specs.declared.Block.{Block}

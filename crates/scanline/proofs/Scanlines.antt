@@ -8,7 +8,6 @@ use lib.ListN.{length, length-append}
 use Rattle.lists.specs.Choice.{pick}
 use Rattle.lists.proofs.Laws.{length-tab}
 use Rattle.nick.specs.Blocks.{loads, loadedNumber, blockAddresses, begun}
-use Rattle.nick.specs.Slots.{modeOf, linePointers}
 use Rattle.nick.specs.Scanline.{begunDots, lineDots, begunFetches, lineFetches, ended, nextScan}
 use Rattle.nick.specs.Sync.{lineSync, lineSyncCount}
 use Rattle.nick.specs.Record.{flags, fetchingSlots, lineRecord, nextState}

@@ -11,7 +11,7 @@ use Rattle.nick.specs.Refusals.{Formed}
 use Rattle.nick.specs.declared.Registers.{Registers}
 use Rattle.nick.specs.declared.Scan.{Scan}
 use Rattle.nick.proofs.WellFormed.{begun-some, begun-formed}
-use Rattle.claims.proofs.Scanlines.{scan-add}
+use Rattle.laws.proofs.StatesAfter.{scan-add}
 use Rattle.walk.specs.Steps.{skipped}
 use Rattle.walk.specs.Walks.{Reached}
 use Rattle.walk.proofs.Rises.{Sixteen}

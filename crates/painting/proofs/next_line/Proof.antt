@@ -1,6 +1,6 @@
 -- `painting::next_line`: the parts that were lent come back with the line's dots and record, and the line's own external bytes
 -- are all that it sees.
-use mathlib.Core.Path.{_≡_, _∙_}
+use mathlib.Core.Path.{_≡_}
 use Prim.Native.Nat.{_+_, _-_, _*_}
 use native.Mathlib.Omega.{arith}
 use Rattle.nick.specs.Sizes.{recordBytes}

@@ -10,9 +10,9 @@ use Rattle.nick.specs.Scanline.{lineDots, scanAfter}
 use Rattle.nick.specs.Record.{lineRecord, stateAfter}
 use Rattle.nick.specs.Painting.{externalAt, frameDots, frameRecords}
 use Rattle.nick.specs.declared.State.{State}
-use Rattle.claims.proofs.Rows.{rows, rows-add, rows-same, length-rows, getD-rows}
-use Rattle.claims.proofs.Scanlines.{state-add, registers-kept, scan-of-state}
-use Rattle.claims.proofs.Slots.{length-line}
+use Rattle.lists.proofs.Rows.{rows, rows-add, rows-same, length-rows, getD-rows}
+use Rattle.laws.proofs.StatesAfter.{state-add, registers-kept, scan-of-state}
+use Rattle.laws.proofs.LineDots.{length-line}
 
 -- the dots of line y of a frame from s, and its record
 abbrev frameLine : List ℕ → List ℕ → State → ℕ → List ℕ

@@ -12,7 +12,7 @@ use Rattle.nick.specs.Scanline.{activeAt, pointersAfter, dotAt, slotDots, slots
 use Rattle.nick.specs.External.{dotColour}
 use Rattle.nick.specs.declared.Registers.{Registers}
 use Rattle.nick.specs.declared.Scan.{Scan}
-use Rattle.claims.proofs.Rows.{rows, length-rows, getD-rows}
+use Rattle.lists.proofs.Rows.{rows, length-rows, getD-rows}
 
 -- the colour of dot j of dot slot n with external byte e, in a scanline that begins as c says
 abbrev pub slotColour : Registers → List ℕ → Scan → ℕ → ℕ → ℕ → ℕ
