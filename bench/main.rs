@@ -22,7 +22,7 @@ struct Frame {
 
 impl Frame {
     fn new() -> Frame {
-        Frame { dots: vec![0; 736 * LINES], records: vec![0; 4 * LINES] }
+        Frame { dots: vec![0; 736 * LINES], records: vec![0; second::BYTES_PER_RECORD * LINES] }
     }
 }
 

@@ -11,6 +11,8 @@ import ctypes
 import sys
 from ctypes import POINTER, c_size_t, c_uint8, c_uint32, c_uint64
 
+RECORD_BYTES = 4  # the record of a scanline
+
 
 class Nick:
     """The chip: its state, and the calls of the library. Buffers are bytearrays; a refusal is an exception."""
@@ -52,7 +54,7 @@ class Nick:
 
     def paint(self, ram, height, external=None):
         """The dots and the records of the next scanlines."""
-        dots, records = bytearray(736 * height), bytearray(4 * height)
+        dots, records = bytearray(736 * height), bytearray(RECORD_BYTES * height)
         self._call("nick_paint", self.state, ram, height, dots, records, external or bytearray())
         return dots, records
 
@@ -83,7 +85,7 @@ def main():
     print(nick.listing(ram), end="")
     print("line 6, dot 9:", nick.dot(ram, 6, 9))
     _, records = nick.paint(ram, 7)
-    print("slots at sync level:", list(records[1::4]))
+    print("slots at sync level:", list(records[1::RECORD_BYTES]))
     print("levels of colour 73:", nick.levels(73))
     try:
         nick.write(144, 0)

@@ -1,6 +1,6 @@
 //! Runs the families of cases and prints their digests.
 
-use crate::nick::{self, Answer, Block, Cell, State};
+use crate::nick::{self, Answer, Block, Cell, State, BYTES_PER_RECORD};
 use crate::random::*;
 
 pub const FRAME_CASES: u64 = 2000;
@@ -366,7 +366,7 @@ fn bench_frame(mode: u8, colour_mode: u8, ram: &mut [u8]) -> State {
 pub fn print_bench(mode: u8, times: u64, colour_modes: std::ops::Range<u8>) {
     let mut buffers = Buffers::new();
     let dots = &mut buffers.dots[..736 * BENCH_HEIGHT as usize];
-    let records = &mut buffers.records[..4 * BENCH_HEIGHT as usize];
+    let records = &mut buffers.records[..BYTES_PER_RECORD * BENCH_HEIGHT as usize];
     for colour_mode in colour_modes {
         let mut state = bench_frame(mode, colour_mode, &mut buffers.ram);
         let ram = &buffers.ram[..nick::RAM_BYTES];
@@ -401,7 +401,7 @@ pub fn print_coverage() {
             let before = state;
             let input = if external.is_empty() { external } else { &external[736 * y..736 * (y + 1)] };
             let dots = &mut dots[736 * y..736 * (y + 1)];
-            let record = &mut records[4 * y..4 * (y + 1)];
+            let record = &mut records[BYTES_PER_RECORD * y..BYTES_PER_RECORD * (y + 1)];
             nick::paint_line(&mut state, ram, dots, record, input);
             let block = state.block;
             let (mode, colours) = (usize::from(block.video_mode()), usize::from(block.colour_mode()));

@@ -111,7 +111,7 @@ fn paint(file: &str, registers: &[&str], height: u32, dots: &str, records: &str)
     let ram = read(file)?;
     let mut state = state_of(registers)?;
     let mut dot_bytes = vec![0; 736 * height as usize];
-    let mut record_bytes = vec![0; 4 * height as usize];
+    let mut record_bytes = vec![0; nick::BYTES_PER_RECORD * height as usize];
     let refusal = nick::paint_frame(&mut state, &ram, height, &mut dot_bytes, &mut record_bytes, &[]);
     if refusal != 0 {
         return Err(format!("refusal {refusal}"));

@@ -1,7 +1,7 @@
 //! The seeded generator, the digest and the random cases.
 //! README.md specifies all of it under "Random cases".
 
-use crate::nick::{Block, State, RAM_BYTES};
+use crate::nick::{Block, State, BYTES_PER_RECORD, RAM_BYTES};
 
 const SEED: u64 = 88_172_645_463_325_252;
 const DIGEST_START: u64 = 1_469_598_103_934_665_603;
@@ -243,13 +243,13 @@ impl Call {
         let single = head.call % 8 == 0;
         let (asked, lines) = heights(head, single);
         let mut dots = 736 * lines;
-        let mut records = 4 * lines;
+        let mut records = BYTES_PER_RECORD * lines;
         let mut external = if bit(head.call, 3) { 736 * lines } else { 0 };
         if head.has_trouble(4) {
             dots = wrong_length(dots, 736, 0, head.trouble[7]);
         }
         if head.has_trouble(5) {
-            records = wrong_length(records, 4, 0, head.trouble[8]);
+            records = wrong_length(records, BYTES_PER_RECORD, 0, head.trouble[8]);
         }
         if head.has_trouble(6) {
             external = wrong_length(736 * lines, 736, 1, head.trouble[9]);

@@ -38,7 +38,7 @@ struct Painted {
 
 impl Painted {
     fn record(&self, y: usize) -> &[u8] {
-        &self.records[4 * y..4 * y + 4]
+        &self.records[BYTES_PER_RECORD * y..BYTES_PER_RECORD * (y + 1)]
     }
 
     fn line(&self, y: usize) -> &[u8] {
@@ -48,7 +48,7 @@ impl Painted {
 
 fn paint_with(state: &mut State, ram: &[u8], height: u32, external: &[u8]) -> Painted {
     let mut dots = vec![170; 736 * height as usize];
-    let mut records = vec![85; 4 * height as usize];
+    let mut records = vec![85; BYTES_PER_RECORD * height as usize];
     assert_eq!(paint_frame(state, ram, height, &mut dots, &mut records, external), 0);
     Painted { dots, records }
 }
@@ -311,7 +311,7 @@ fn refusals_3_to_8_of_painting() {
     }
     assert_eq!(refused(good, 0, 0, 1, 1, 1), 4);
     assert_eq!(refused(good, 65_536, 0, 0, 0, 0), 5);
-    assert_eq!(refused(good, 65_536, 1025, 736 * 1025, 4 * 1025, 0), 5);
+    assert_eq!(refused(good, 65_536, 1025, 736 * 1025, BYTES_PER_RECORD * 1025, 0), 5);
     assert_eq!(refused(good, 65_536, u32::MAX, 1, 1, 1), 5);
     assert_eq!(refused(good, 65_536, 2, 736, 8, 0), 6);
     assert_eq!(refused(good, 65_536, 2, 1473, 7, 1), 6);
@@ -327,7 +327,7 @@ fn refusals_of_one_line() {
     let ram = vec![0; RAM_BYTES];
     let mut state = State::fresh();
     let mut dots = [170; 736];
-    let mut records = [85; 4];
+    let mut records = [85; BYTES_PER_RECORD];
     assert_eq!(paint_line(&mut state, &ram, &mut dots[1..], &mut records, &[]), 6);
     assert_eq!(paint_line(&mut state, &ram, &mut dots, &mut records[1..], &[]), 7);
     assert_eq!(paint_line(&mut state, &ram, &mut dots, &mut records, &[0]), 8);
@@ -623,7 +623,7 @@ struct SlowDot {
 struct SlowLine {
     dots: Vec<SlowDot>,
     fetches: Vec<u16>,
-    record: [u8; 4],
+    record: [u8; BYTES_PER_RECORD],
     blank: bool,
 }
 
@@ -824,7 +824,7 @@ fn frames_agree_with_the_slow_model() {
         let mut slow = call.state;
         for y in 0..call.asked as usize {
             let line = slow_line(&mut slow, ram);
-            assert_eq!(line.record, records[4 * y..4 * y + 4]);
+            assert_eq!(line.record, records[BYTES_PER_RECORD * y..BYTES_PER_RECORD * (y + 1)]);
             assert!(line.fetches.len() <= 108);
             for x in 0..736 {
                 let input = if external.is_empty() { 0 } else { external[736 * y + x] };
@@ -884,10 +884,10 @@ fn single_lines_make_the_frame() {
         let mut state = call.state;
         for y in 0..call.asked as usize {
             let input = if external.is_empty() { external } else { &external[736 * y..736 * (y + 1)] };
-            let (mut line, mut record) = ([170; 736], [85; 4]);
+            let (mut line, mut record) = ([170; 736], [85; BYTES_PER_RECORD]);
             assert_eq!(paint_line(&mut state, ram, &mut line, &mut record, input), 0);
             assert_eq!(line, dots[736 * y..736 * (y + 1)]);
-            assert_eq!(record, records[4 * y..4 * y + 4]);
+            assert_eq!(record, records[BYTES_PER_RECORD * y..BYTES_PER_RECORD * (y + 1)]);
         }
         assert_eq!(state, whole);
     }

@@ -1,9 +1,10 @@
 -- Demand 3 on a list of four calls, computed: a frame, a refused painting, a single line, and a frame with external input.
 use mathlib.Core.Path.{_≡_, refl, _∙_}
 use mathlib.Core.List.{List, [], _∷_, _++_, map}
-use Prim.Native.Nat.{ℕ}
+use Prim.Native.Nat.{ℕ, _*_}
 use lib.Dec.{lit≤}
 use lib.ListN.{replicate}
+use Rattle.nick.specs.Sizes.{recordBytes}
 use Rattle.nick.specs.Registers.{freshState}
 use Rattle.nick.specs.Blocks.{loadedNumber, decoded, blockAt, blockAddresses, loaded, continued, begun}
 use Rattle.nick.specs.Slots.{modeNumbered, fontAddress}
@@ -42,17 +43,17 @@ ram =
     ++ text
 
 abbrev frame : Call
-frame = lines 2 (replicate 1472 0) (replicate 8 0) []
+frame = lines 2 (replicate 1472 0) (replicate (2 * recordBytes) 0) []
 
 abbrev refused : Call
 refused = lines 0 [] (1 ∷ 2 ∷ 3 ∷ []) []
 
 abbrev single : Call
-single = oneLine (replicate 736 0) (replicate 4 0) []
+single = oneLine (replicate 736 0) (replicate recordBytes 0) []
 
 -- the external byte is 135 at dot 32 of the second line
 abbrev mixed : Call
-mixed = lines 2 (replicate 1472 0) (replicate 8 0) (replicate 768 0 ++ (135 ∷ replicate 703 0))
+mixed = lines 2 (replicate 1472 0) (replicate (2 * recordBytes) 0) (replicate 768 0 ++ (135 ∷ replicate 703 0))
 
 abbrev calls : List Call
 calls = frame ∷ refused ∷ single ∷ mixed ∷ []

@@ -1,15 +1,16 @@
 -- Lengths of the buffers: of the whole ones, and of the parts that a painting call is lent.
-use Prim.Native.Nat.{ℕ, _≤_}
+use Prim.Native.Nat.{ℕ, _*_, _≤_}
 use mathlib.Core.Path.{_≡_}
 use mathlib.Core.List.{List}
 use lib.ListN.{length}
+use Rattle.nick.specs.Sizes.{recordBytes}
 use Rattle.random_cases.specs.declared.frames.call.Call.{Call}
 
 -- the whole buffers: RAM, dots, records, external input, the listing's output
 pub record Whole (m d r e o : List ℕ) : Type 0 where
   pub ram : length m ≡ 65537
   pub dots : length d ≡ 754400
-  pub records : length r ≡ 4104
+  pub records : length r ≡ recordBytes * 1026
   pub external : length e ≡ 754400
   pub out : length o ≡ 330000
 
@@ -17,5 +18,5 @@ pub record Whole (m d r e o : List ℕ) : Type 0 where
 pub record Lent (c : Call) : Type 0 where
   pub ram : c .ram ≤ 65537
   pub dots : c .dots ≤ 754400
-  pub records : c .records ≤ 4104
+  pub records : c .records ≤ recordBytes * 1026
   pub external : c .external ≤ 754400

@@ -2,7 +2,9 @@
 mod call;
 
 ghost use mathlib.Core.Path.{_≡_};
+ghost use Prim.Native.Nat.{_*_};
 ghost use lib.ListN.{length};
+ghost use Rattle.nick.specs.Sizes.{recordBytes};
 ghost use Rattle.random_cases.specs.Lengths.{Lent};
 use call::Call;
 use call::call_of;
@@ -85,7 +87,7 @@ pub fn run_case(
     tally: &mut [u64],
 ) -> u64
     requires { ⌜ (length (now ram) ≡ 65537) × (length (now dots) ≡ 754400) ⌝ }
-    requires { ⌜ (length (now records) ≡ 4104) × (length (now external) ≡ 754400) ⌝ }
+    requires { ⌜ (length (now records) ≡ recordBytes * 1026) × (length (now external) ≡ 754400) ⌝ }
 {
     let call = draw_call(case, ram, external);
     let ram_end = call.ram;

@@ -1,5 +1,6 @@
 // The painting call of a case: its height, and the lengths of the buffers lent.
-ghost use Prim.Native.Nat.{_+_, _≤_};
+ghost use Prim.Native.Nat.{_+_, _*_, _≤_};
+ghost use Rattle.nick.specs.Sizes.{recordBytes};
 ghost use Rattle.cases.specs.Head.{Drawn};
 ghost use Rattle.random_cases.specs.Lengths.{Lent};
 use cases::Head;
@@ -87,7 +88,7 @@ fn dots_length(head: Head, lent: usize) -> usize
 // The length of records, wrong by trouble 5.
 fn records_length(head: Head, lent: usize) -> usize
     requires { ⌜ lent ≤ 1025 ⌝ }
-    ensures { λ r. ⌜ r ≤ 4104 ⌝ }
+    ensures { λ r. ⌜ r ≤ recordBytes * 1026 ⌝ }
 {
     let right = RECORD_BYTES * lent;
     if cases::befalls(head, 5) {
