@@ -2,23 +2,17 @@
 mod margins;
 
 ghost use mathlib.Core.Path.{_≡_};
-ghost use Prim.Native.Nat.{_+_, _*_, _<_};
+ghost use Prim.Native.Nat.{_<_};
 ghost use lib.ListN.{length};
 ghost use Rattle.nick.specs.Registers.{baseNumber};
 ghost use Rattle.nick.specs.Blocks.{decoded, blockAt, loadedNumber, loaded, continued, loads, begun};
+use lists::word;
 pub use margins::active_before;
 pub use margins::is_active;
 use nick::Block;
 use nick::Pointers;
 use nick::Registers;
 use nick::Scan;
-
-// The sum of a byte and 256 times another.
-pub fn word(low: u8, high: u8) -> u16
-    ensures { λ r. ⌜ r ≡ low + 256 * high ⌝ }
-{
-    low as u16 + 256 * (high as u16)
-}
 
 // The block that sixteen bytes hold.
 pub fn decode(bytes: &[u8]) -> Block

@@ -1,7 +1,7 @@
 // The digest of bytes, words and states.
 use crate::source::step;
-use encoding::high;
-use encoding::low;
+use lists::high;
+use lists::low;
 use nick::State;
 
 // The digest before the first byte.

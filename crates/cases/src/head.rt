@@ -6,7 +6,7 @@ ghost use Rattle.cases.specs.Head.{Drawn};
 use crate::source::Source;
 use crate::source::draw;
 use crate::source::seeded;
-use blocks::word;
+use lists::word;
 use nick::Pointers;
 use nick::Registers;
 use nick::Scan;

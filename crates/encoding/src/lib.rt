@@ -1,10 +1,11 @@
 // The state as 32 bytes: specs/Encoding.antt has the places.
 ghost use mathlib.Core.Path.{_≡_};
-ghost use Prim.Native.Nat.{_/_, _%_};
 ghost use lib.ListN.{length};
 ghost use Rattle.encoding.specs.Encoding.{encoded, flagsOf, scanOf, stateOf};
-use blocks::word;
 use lists::bit;
+use lists::high;
+use lists::low;
+use lists::word;
 use nick::Pointers;
 use nick::Registers;
 use nick::Scan;
@@ -55,20 +56,6 @@ fn flags(state: State) -> u8
     ensures { λ r. ⌜ r ≡ flagsOf state ⌝ }
 {
     bit(state.scan.pending) + 2 * bit(state.virq) + 4 * bit(state.sync)
-}
-
-// The low byte of a pair.
-pub fn low(pair: u16) -> u8
-    ensures { λ r. ⌜ r ≡ pair % 256 ⌝ }
-{
-    (pair % 256) as u8
-}
-
-// The high byte of a pair.
-pub fn high(pair: u16) -> u8
-    ensures { λ r. ⌜ r ≡ pair / 256 ⌝ }
-{
-    (pair / 256) as u8
 }
 
 // The bytes of a state.

@@ -1,6 +1,6 @@
-// Helpers that every layer uses.
+// Helpers that every layer uses: filling, the smaller of two numbers, pairs of bytes.
 ghost use mathlib.Core.Path.{_≡_};
-ghost use Prim.Native.Nat.{_≤_, min};
+ghost use Prim.Native.Nat.{_+_, _*_, _/_, _%_, _≤_, min};
 ghost use lib.ListN.{length, replicate};
 ghost use Rattle.lists.specs.Choice.{number};
 
@@ -27,4 +27,25 @@ pub fn smaller(a: usize, b: usize) -> usize
     ensures { λ r. ⌜ r ≡ min a b ⌝ }
 {
     if a < b { a } else { b }
+}
+
+// The number that a pair of bytes holds, low byte first.
+pub fn word(low: u8, high: u8) -> u16
+    ensures { λ r. ⌜ r ≡ low + 256 * high ⌝ }
+{
+    low as u16 + 256 * (high as u16)
+}
+
+// The low byte of such a pair.
+pub fn low(pair: u16) -> u8
+    ensures { λ r. ⌜ r ≡ pair % 256 ⌝ }
+{
+    (pair % 256) as u8
+}
+
+// The high byte of such a pair.
+pub fn high(pair: u16) -> u8
+    ensures { λ r. ⌜ r ≡ pair / 256 ⌝ }
+{
+    (pair / 256) as u8
 }

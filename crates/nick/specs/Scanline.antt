@@ -1,6 +1,6 @@
 -- Document 01, "One scanline": the slots in order, the dots, the fetches, and the step to the next scanline.
 use Prim.Native.Nat.{ℕ, zero, suc, _+_, _-_, _*_}
-use mathlib.Core.Bool.{Bool, true, false}
+use mathlib.Core.Bool.{Bool}
 use mathlib.Core.List.{List, [], _++_, map}
 use Rattle.lists.specs.Choice.{pick}
 use Rattle.lists.specs.Tab.{tab}
@@ -20,8 +20,7 @@ activeAt b n = isActive b (8 + n)
 
 -- the pointers after a slot, active or not
 abbrev pub pastSlot : Bool → Block → Pointers → Pointers
-pastSlot true b p = slotPointers (modeOf b) p
-pastSlot false b p = p
+pastSlot active b p = pick active (slotPointers (modeOf b) p) p
 
 -- the pointers after the first n dot slots
 abbrev pub pointersAfter : Block → ℕ → Pointers → Pointers
@@ -30,8 +29,7 @@ pointersAfter b (suc n) p = pastSlot (activeAt b n) b (pointersAfter b n p)
 
 -- the addresses that a slot fetches, active or not
 abbrev pub slotAddresses : Bool → List ℕ → Block → Pointers → List ℕ
-slotAddresses true ram b p = slotFetches (modeOf b) ram p
-slotAddresses false ram b p = []
+slotAddresses active ram b p = pick active (slotFetches (modeOf b) ram p) []
 
 -- the addresses that the first n dot slots fetch, in order
 abbrev pub slotsFetched : List ℕ → Block → ℕ → Pointers → List ℕ

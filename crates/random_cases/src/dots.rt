@@ -85,8 +85,8 @@ fn digest_answer(digest: u64, answer: Answer) -> u64 {
 fn run_question(turn: Turn, state: State, ram: &[u8], tally: &mut [u64]) -> Turn {
     let mut bytes = [0u8; 6];
     let source = cases::draw(turn.source, &mut bytes);
-    let line = line_of(bytes[0], blocks::word(bytes[1], bytes[2]));
-    let dot = dot_of(bytes[0], blocks::word(bytes[3], bytes[4]));
+    let line = line_of(bytes[0], lists::word(bytes[1], bytes[2]));
+    let dot = dot_of(bytes[0], lists::word(bytes[3], bytes[4]));
     let asked = digest_question(turn.digest, line, dot, bytes[5]);
     let answer = direct::dot(state, ram, line, dot, bytes[5]);
     cases::count(tally, refusal_of(answer));

@@ -102,18 +102,10 @@ module _ (g : Registers) (ram : List ℕ) (c : Scan) (ext : ℕ → ℕ) (none :
       (map (byteAt ram) (dotAddresses (modeOf (c .block)) ram q j)) j (ext (16 * n + j)) (idle (c .block) n none)))
 
   slot-past : (n : ℕ) (q : Pointers) → pastSlot (activeAt (c .block) n) (c .block) q ≡ q
-  slot-past n q = same (activeAt (c .block) n) ∙ idle-past g (c .block) (activeAt (c .block) n) (modeOf (c .block)) q (idle (c .block) n none)
-    where
-      same : (active : Bool) → pastSlot active (c .block) q ≡ pick active (slotPointers (modeOf (c .block)) q) q
-      same true = refl
-      same false = refl
+  slot-past n q = idle-past g (c .block) (activeAt (c .block) n) (modeOf (c .block)) q (idle (c .block) n none)
 
   slot-none : (n : ℕ) (q : Pointers) → slotAddresses (activeAt (c .block) n) ram (c .block) q ≡ []
-  slot-none n q = same (activeAt (c .block) n) ∙ idle-none g (c .block) (activeAt (c .block) n) (modeOf (c .block)) ram q (idle (c .block) n none)
-    where
-      same : (active : Bool) → slotAddresses active ram (c .block) q ≡ pick active (slotFetches (modeOf (c .block)) ram q) []
-      same true = refl
-      same false = refl
+  slot-none n q = idle-none g (c .block) (activeAt (c .block) n) (modeOf (c .block)) ram q (idle (c .block) n none)
 
   -- n slots
   slots-plain : (n : ℕ) → slotsDots g ram (c .block) n (c .at) ext ≡ replicate (16 * n) (plain g (c .block))

@@ -1,5 +1,5 @@
 -- Laws that put a scanline's parts together: its dots, its record, the state after it.
-use mathlib.Core.Path.{_≡_, refl}
+use mathlib.Core.Path.{_≡_, refl, ap, _∙_}
 use mathlib.Core.Bool.{Bool, true, false}
 use mathlib.Core.List.{List, [], _∷_}
 use Prim.Native.Nat.{ℕ, _+_, _-_, _*_, _/_, _%_}
@@ -22,6 +22,11 @@ unfolding blockAddresses
 load-length true n = length-tab (λ i. 16 * n + i) 16
 load-length false n = refl
 
+-- the end of a scanline whose slots have all passed
+ended-at : (c : Scan) → endedAt c (slotsEnd c) ≡ ended c
+unfolding ended endedAt slotsEnd
+ended-at c = refl
+
 module _ (s : State) (ram : List ℕ) (c : Scan) (begins : c ≡ begun (s .registers) ram (s .scan)) where
   pub dots-are : (ext : ℕ → ℕ) → begunDots (s .registers) ram c ext ≡ lineDots (s .registers) ram (s .scan) ext
   unfolding lineDots
@@ -34,8 +39,10 @@ module _ (s : State) (ram : List ℕ) (c : Scan) (begins : c ≡ begun (s .regis
       → _≡_ {A = State}
       (record { registers = s .registers; scan = d; virq = eqb (c .block .mb / 128 % 2) 1; sync = on })
       (nextState ram s)
-  unfolding nextState nextScan ended endedAt slotsEnd
-  state-is d p on hd hp hon = rw (hd, hp, hon, begins)
+  unfolding nextState nextScan
+  state-is d p on hd hp hon =
+      let end : d ≡ ended c = hd ∙ (ap (endedAt c) hp ∙ ended-at c) in
+      rw (end, hon, begins)
 
   pub record-is : (d : Scan) (p : Pointers) (load : Bool) (f l k y n : ℕ)
       → d ≡ endedAt c p

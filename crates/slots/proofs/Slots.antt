@@ -1,7 +1,7 @@
 -- The sixteen dots of a slot: those of its cells are the rules' dots, with external input connected or not.
 use mathlib.Core.Path.{_≡_, refl, sym, ap, _∙_}
 use mathlib.Core.Bool.{Bool, true, false}
-use mathlib.Core.List.{List, []}
+use mathlib.Core.List.{List}
 use Prim.Native.Nat.{ℕ, _+_, _*_, _<_}
 use native.Mathlib.Omega.{arith}
 use lib.Dec.{eqb}
@@ -10,10 +10,10 @@ use Rattle.lists.specs.Choice.{pick}
 use Rattle.lists.specs.Tab.{tab}
 use Rattle.lists.proofs.Laws.{length-tab, getD-tab, tab-same, tab-one}
 use Rattle.nick.specs.Numbers.{byteAt}
-use Rattle.nick.specs.Slots.{modeOf, slotFetches, slotPointers}
+use Rattle.nick.specs.Slots.{modeOf}
 use Rattle.nick.specs.Colour.{paletteColour}
 use Rattle.nick.specs.External.{mixedColour, dotColour}
-use Rattle.nick.specs.Scanline.{activeAt, pastSlot, slotAddresses, dotAt, slotDots}
+use Rattle.nick.specs.Scanline.{activeAt, dotAt, slotDots}
 use Rattle.nick.specs.Sync.{syncs}
 use Rattle.nick.specs.declared.Registers.{Registers}
 use Rattle.nick.specs.declared.Pointers.{Pointers}
@@ -62,8 +62,8 @@ pub any-slot : (g : Registers) (ram : List ℕ) (b : Block) (n : ℕ) (p : Point
 unfolding fetchedDots mixedDots mixedDot slotDots
 any-slot g ram b n p external out f l e o = record {
   dots = o ∙ rw e (picked (eqb (got .count) 0) (pick (syncs (modeOf b)) 0 (g .border)) dot ∙ tab-same shown ruled 16 same);
-  at = rw e (moved g ram b p (activeAt b n) (modeOf b) ∙ past (activeAt b n));
-  fetched = rw e (counted g ram b p (activeAt b n) (modeOf b) ∙ ap length (addresses (activeAt b n)));
+  at = rw e (moved g ram b p (activeAt b n) (modeOf b));
+  fetched = rw e (counted g ram b p (activeAt b n) (modeOf b));
   few = rw e (few g ram b p (activeAt b n) (modeOf b));
 }
   where
@@ -81,11 +81,3 @@ any-slot g ram b n p external out f l e o = record {
 
     same : (j : ℕ) → j < 16 → shown j ≡ ruled j
     same j h = mode-dot g ram b p (activeAt b n) (modeOf b) j (byteAt external (16 * n + j)) h l
-
-    past : (active : Bool) → pick active (slotPointers (modeOf b) p) p ≡ pastSlot active b p
-    past true = refl
-    past false = refl
-
-    addresses : (active : Bool) → pick active (slotFetches (modeOf b) ram p) [] ≡ slotAddresses active ram b p
-    addresses true = refl
-    addresses false = refl
