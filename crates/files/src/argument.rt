@@ -51,17 +51,39 @@ pub fn read_argument(i: usize, buf: &mut [u8]) -> Contents
     contents
 }
 
-// Writes the file that argument i names, and answers whether all of it is written.
-pub fn write_argument(i: usize, bytes: &[u8]) -> bool {
+// Opens the file that argument i names to be written anew. The number is below 0 where it cannot be.
+fn open_argument(i: usize) -> i32 {
     let mut path = io::buffer();
     let n = os::arg(i, &mut path);
-    let fd = os::open_overwrite(&path[..n]);
+    os::open_overwrite(&path[..n])
+}
+
+// Writes the bytes as many times as told, and answers whether all is written.
+fn write_open(fd: i32, bytes: &[u8], times: usize) -> bool {
+    let mut n: usize = 0;
+    while n < times {
+        if !io::write_all(fd, bytes) {
+            return false;
+        }
+        n += 1;
+    }
+    true
+}
+
+// Writes the file that argument i names, the bytes as many times as told, and answers whether all of it is written.
+pub fn write_repeated(i: usize, bytes: &[u8], times: usize) -> bool {
+    let fd = open_argument(i);
     if fd < 0 {
         return false;
     }
-    let is_written = io::write_all(fd, bytes);
+    let is_written = write_open(fd, bytes, times);
     let is_closed = libc::close(fd) == 0;
     is_written && is_closed
+}
+
+// Writes the file that argument i names, and answers whether all of it is written.
+pub fn write_argument(i: usize, bytes: &[u8]) -> bool {
+    write_repeated(i, bytes, 1)
 }
 
 // Whether two arguments are the same text.

@@ -6,7 +6,7 @@ ghost use Rattle.lists.specs.Choice.{pick};
 use crate::argument::read_argument;
 
 // The arguments that every program begins with.
-const RAM: usize = 1;
+pub const RAM: usize = 1;
 
 pub const WRITES: usize = 2;
 

@@ -2,18 +2,21 @@
 mod argument;
 mod inputs;
 mod print;
+mod same;
 mod writes;
 
 pub use argument::Contents;
 pub use argument::Number;
-pub use argument::is_same_argument;
 pub use argument::number_argument;
 pub use argument::read_argument;
 pub use argument::write_argument;
+pub use argument::write_repeated;
 pub use inputs::Inputs;
+pub use inputs::RAM;
 pub use inputs::WRITES;
 pub use inputs::read_inputs;
 pub use print::print_refusal;
 pub use print::print_unreadable;
 pub use print::print_unwritten;
+pub use same::is_same_file;
 pub use writes::apply_writes;

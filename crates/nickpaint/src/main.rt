@@ -1,15 +1,18 @@
 // Paints scanlines from files, line by line:
 // nickpaint RAM WRITES HEIGHT DOTS RECORDS [EXTERNAL]
 //
-// RECORDS is stamped first and written last, so that a run that is refused, fails or is stopped leaves a stamped one.
+// RECORDS is stamped first and written last, so that a run that is refused, fails or is stopped leaves a stamped one, also where the
+// stack has no room for the buffers. Where an output is one of the inputs, by whatever name, nothing is touched.
 ghost use mathlib.Core.Path.{_≡_};
 ghost use Prim.Native.Nat.{_*_, _≤_};
 ghost use lib.ListN.{length};
 ghost use Rattle.nick.specs.Sizes.{recordBytes};
 ghost use Rattle.lists.specs.Choice.{pick};
-ghost use Rattle.nickpaint.specs.Arguments.{linesStamped, stamps};
+ghost use Rattle.nickpaint.specs.Arguments.{isClash, isInput, linesStamped, stamps};
 ghost use Rattle.nickpaint.specs.Paintings.{PaintsAfter};
 use files::Number;
+use files::RAM;
+use files::WRITES;
 use libc::STDOUT_FILENO;
 use lists::smaller;
 use nick::RECORD_BYTES;
@@ -23,10 +26,27 @@ const RECORDS: usize = 5;
 
 const EXTERNAL: usize = 6;
 
+// Which inputs are the file that an output names.
+struct Named {
+    ram: bool,
+    writes: bool,
+    external: bool,
+}
+
+// What is left to do once RECORDS is stamped.
+enum Task {
+    Paint(usize),
+    Nothing,
+}
+
+fn has_external() -> bool {
+    EXTERNAL < os::arg_count()
+}
+
 fn print_usage() {
     io::write_all(
         STDOUT_FILENO,
-        b"usage: nickpaint RAM WRITES HEIGHT DOTS RECORDS [EXTERNAL]; WRITES is pairs of bytes, port and value, at most 32,768; DOTS and RECORDS are two files\n",
+        b"usage: nickpaint RAM WRITES HEIGHT DOTS RECORDS [EXTERNAL]; WRITES is pairs of bytes, port and value, at most 32,768; DOTS and RECORDS are two files, and neither is an input\n",
     );
 }
 
@@ -52,21 +72,74 @@ fn lines_stamped(height: Number) -> usize
     n
 }
 
-// Stamps the records, and writes those of the lines given to RECORDS.
-fn stamp(lines: usize, records: &mut [u8]) -> bool
-    requires { ⌜ recordBytes * lines ≤ length (now records) ⌝ }
+// Stamps records.
+fn stamp(records: &mut [u8])
     ensures { λ r. ⌜ now (records .exit) ≡ stamps (now (records .entry)) ⌝ }
 {
     lists::fill(records, 255);
-    let end = RECORD_BYTES * lines;
-    files::write_argument(RECORDS, &records[0..end])
+}
+
+// Writes RECORDS with as many stamped lines, and answers whether all are written. Line by line, so that little room is needed.
+fn stamp_lines(lines: usize) -> bool {
+    let mut record = [0u8; RECORD_BYTES];
+    stamp(&mut record);
+    files::write_repeated(RECORDS, &record, lines)
+}
+
+// Compares an output with each input.
+fn inputs_named(output: usize) -> Named {
+    Named {
+        ram: files::is_same_file(RAM, output),
+        writes: files::is_same_file(WRITES, output),
+        external: has_external() && files::is_same_file(EXTERNAL, output),
+    }
+}
+
+// Whether an output is one of the inputs.
+fn is_input(output: Named) -> bool
+    ensures { λ r. ⌜ r ≡ isInput output ⌝ }
+{
+    if output.ram {
+        return true;
+    }
+    output.writes || output.external
+}
+
+// Whether the run would write over an input.
+fn is_clash(dots: Named, records: Named) -> bool
+    ensures { λ r. ⌜ r ≡ isClash dots records ⌝ }
+{
+    is_input(dots) || is_input(records)
+}
+
+// Stamps RECORDS, unless an output is an input, and answers what is left to do.
+fn start() -> Task {
+    let count = os::arg_count();
+    if count <= RECORDS || is_clash(inputs_named(DOTS), inputs_named(RECORDS)) {
+        print_usage();
+        return Task::Nothing;
+    }
+    let asked = files::number_argument(HEIGHT);
+    if !stamp_lines(lines_stamped(asked)) {
+        files::print_unwritten(RECORDS);
+        return Task::Nothing;
+    }
+    if EXTERNAL + 1 < count || files::is_same_file(DOTS, RECORDS) {
+        print_usage();
+        return Task::Nothing;
+    }
+    let Number::Value(height) = asked else {
+        print_usage();
+        return Task::Nothing;
+    };
+    Task::Paint(height)
 }
 
 // Reads EXTERNAL, which may be absent.
-fn read_external(external: &mut [u8]) -> files::Contents
+fn read_external(is_given: bool, external: &mut [u8]) -> files::Contents
     ensures { λ r. ⌜ r .length ≤ length (now (external .entry)) ⌝ }
 {
-    if os::arg_count() <= EXTERNAL {
+    if !is_given {
         return files::Contents {
             is_read: true,
             length: 0,
@@ -76,26 +149,24 @@ fn read_external(external: &mut [u8]) -> files::Contents
 }
 
 // Writes RECORDS; where that fails, it is stamped again.
-fn write_records(height: usize, records: &mut [u8]) -> bool
-    requires { ⌜ recordBytes * height ≤ length (now records) ⌝ }
+fn write_records(records: &mut [u8]) -> bool
     ensures { λ r. ⌜ now (records .exit) ≡ pick r (now (records .entry)) (stamps (now (records .entry))) ⌝ }
 {
     if files::write_argument(RECORDS, records) {
         return true;
     }
-    stamp(height, records);
+    stamp(records);
+    files::write_argument(RECORDS, records);
     false
 }
 
 // Writes DOTS, then RECORDS.
-fn write_painted(height: usize, dots: &[u8], records: &mut [u8])
-    requires { ⌜ recordBytes * height ≤ length (now records) ⌝ }
-{
+fn write_painted(height: usize, dots: &[u8], records: &mut [u8]) {
     if !files::write_argument(DOTS, dots) {
         files::print_unwritten(DOTS);
         return;
     }
-    if !write_records(height, records) {
+    if !write_records(records) {
         files::print_unwritten(RECORDS);
         return;
     }
@@ -130,7 +201,7 @@ fn paint_files(
     records: &mut [u8],
     external: &[u8],
 )
-    requires { ⌜ (length (now dots) ≡ 753664) × (length (now records) ≡ 262144) ⌝ }
+    requires { ⌜ (length (now dots) ≡ 753664) × (length (now records) ≡ 4096) ⌝ }
 {
     let lines = smaller(height, 1024);
     let dots_end = 736 * lines;
@@ -150,115 +221,104 @@ fn paint_files(
     write_painted(lines, &dots[0..dots_end], &mut records[0..records_end]);
 }
 
-// Reads EXTERNAL and paints.
+// Reads EXTERNAL, where it is given, and paints. Answers whether it could be read.
 fn run_read(
+    is_given: bool,
     ram: &[u8],
     writes: &[u8],
     height: usize,
     dots: &mut [u8],
     records: &mut [u8],
     external: &mut [u8],
-)
-    requires { ⌜ (length (now dots) ≡ 753664) × (length (now records) ≡ 262144) ⌝ }
+) -> bool
+    requires { ⌜ (length (now dots) ≡ 753664) × (length (now records) ≡ 4096) ⌝ }
 {
-    let read = read_external(external);
+    let read = read_external(is_given, external);
     if !read.is_read {
-        files::print_unreadable(EXTERNAL);
-        return;
+        return false;
     }
     let end = read.length;
     paint_files(ram, writes, height, dots, records, &external[0..end]);
+    true
 }
 
-// Reads the files and paints, once RECORDS is stamped.
-fn run_stamped(
+// Reads the files and paints. Answers false where EXTERNAL could not be read, which is then to be told.
+fn run_lent(
+    is_given: bool,
     height: usize,
     ram: &mut [u8],
     writes: &mut [u8],
     dots: &mut [u8],
     records: &mut [u8],
     external: &mut [u8],
-)
-    requires { ⌜ (length (now dots) ≡ 753664) × (length (now records) ≡ 262144) ⌝ }
+) -> bool
+    requires { ⌜ (length (now dots) ≡ 753664) × (length (now records) ≡ 4096) ⌝ }
 {
     let read = files::read_inputs(ram, writes);
     if read.unread != 0 {
         files::print_unreadable(read.unread);
-        return;
+        return true;
     }
     let ram_end = read.ram;
     let writes_end = read.writes;
     if writes_end % 2 == 1 {
         print_usage();
-        return;
+        return true;
     }
     run_read(
+        is_given,
         &ram[0..ram_end],
         &writes[0..writes_end],
         height,
         dots,
         records,
         external,
-    );
-}
-
-// Stamps RECORDS, then does what the arguments ask.
-fn run_lent(
-    ram: &mut [u8],
-    writes: &mut [u8],
-    dots: &mut [u8],
-    records: &mut [u8],
-    external: &mut [u8],
-)
-    requires { ⌜ (length (now dots) ≡ 753664) × (length (now records) ≡ 262144) ⌝ }
-{
-    let count = os::arg_count();
-    if count <= RECORDS {
-        print_usage();
-        return;
-    }
-    let asked = files::number_argument(HEIGHT);
-    if !stamp(lines_stamped(asked), records) {
-        files::print_unwritten(RECORDS);
-        return;
-    }
-    if EXTERNAL + 1 < count {
-        print_usage();
-        return;
-    }
-    if files::is_same_argument(DOTS, RECORDS) {
-        print_usage();
-        return;
-    }
-    let Number::Value(height) = asked else {
-        print_usage();
-        return;
-    };
-    run_stamped(height, ram, writes, dots, records, external);
+    )
 }
 
 // Each buffer that is read into holds one byte more than is allowed, so that a longer file shows.
 fn run(
+    is_given: bool,
+    height: usize,
     ram: &mut [u8; 65537],
     writes: &mut [u8; 65537],
     dots: &mut [u8; 753664],
-    records: &mut [u8; 262144],
+    records: &mut [u8; 4096],
     external: &mut [u8; 753665],
-) {
-    run_lent(ram, writes, dots, records, external);
+) -> bool {
+    run_lent(is_given, height, ram, writes, dots, records, external)
 }
 
-fn main() {
+// Makes room for the buffers, some 1.6 MB, and paints.
+fn run_in_buffers(is_given: bool, height: usize) -> bool {
     let mut ram = [0u8; 65537];
     let mut writes = [0u8; 65537];
     let mut dots = [0u8; 753664];
-    let mut records = [0u8; 262144];
+    let mut records = [0u8; 4096];
     let mut external = [0u8; 753665];
     run(
+        is_given,
+        height,
         &mut ram,
         &mut writes,
         &mut dots,
         &mut records,
         &mut external,
-    );
+    )
+}
+
+// There must be no buffers before RECORDS is stamped, and the compiler makes a function that is called in one place, or in two that
+// go on alike, part of its caller: so run_in_buffers is called in two places, which go on differently. check_example tries it.
+fn main() {
+    let task = start();
+    let Task::Paint(height) = task else {
+        return;
+    };
+    if !has_external() {
+        run_in_buffers(false, height);
+        return;
+    }
+    if !run_in_buffers(true, height) {
+        files::print_unreadable(EXTERNAL);
+    }
 }
