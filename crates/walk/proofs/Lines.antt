@@ -17,7 +17,7 @@ use Rattle.nick.specs.declared.Pointers.{Pointers}
 use Rattle.nick.specs.declared.Block.{Block}
 use Rattle.nick.specs.declared.Scan.{Scan}
 use Rattle.walk.specs.Steps.{stepsOf, advanced, rise1, rise2, lineRise2, skipped}
-use Rattle.walk.proofs.Rises.{Sixteen, advanced-twice, advanced-sixteen, line-advances, pointers-after}
+use Rattle.walk.proofs.Rises.{SixteenBits, advanced-twice, advanced-sixteen, line-advances, pointers-after}
 
 pick-same {ℓ} : {A : Type ℓ} (t : Bool) (a : A) → pick t a a ≡ a
 pick-same true a = refl
@@ -44,7 +44,7 @@ begun-restarted g ram c = go (loads c)
     go false = pick-twice (vres (c .block)) (c .at .ld1) (c .block .start .ld1)
 
 -- a whole scanline moves the pointers by the mode's steps
-pub line-moves : (b : Block) (p : Pointers) → Sixteen p → linePointers (modeOf b) (pointersAfter b 46 p) ≡ advanced (rise1 b 46) (lineRise2 b) p
+pub line-moves : (b : Block) (p : Pointers) → SixteenBits p → linePointers (modeOf b) (pointersAfter b 46 p) ≡ advanced (rise1 b 46) (lineRise2 b) p
 line-moves b p h =
     rw (pointers-after b 46 p h, line-advances (modeOf b) (advanced (rise1 b 46) (rise2 b 46) p) (advanced-sixteen (rise1 b 46) (rise2 b 46) p), advanced-twice (rise1 b 46) (rise2 b 46) 0 (stepsOf (modeOf b) .line) p, add-zero (rise1 b 46))
 
@@ -55,23 +55,23 @@ line-more true r₁ r₂ n s p h = rw (suc-mul n r₁, suc-mul n r₂) (advanced
 line-more false r₁ r₂ n s p h = rw (suc-mul n r₂, one-mul r₁, h) (ap (λ (q : Pointers). record { ld1 = up r₁ (p .ld1); ld2 = q .ld2 }) (advanced-twice (n * r₁) (n * r₂) r₁ r₂ p))
 
 -- the restart of LD1 keeps it within 16 bits
-restart-sixteen : (v : Bool) (s : ℕ) (p : Pointers) (x y : ℕ) → Sixteen p → pick v (p .ld1) s ≡ p .ld1 → Sixteen (record { ld1 = pick v (up x (p .ld1)) s; ld2 = up y (p .ld2) })
+restart-sixteen : (v : Bool) (s : ℕ) (p : Pointers) (x y : ℕ) → SixteenBits p → pick v (p .ld1) s ≡ p .ld1 → SixteenBits (record { ld1 = pick v (up x (p .ld1)) s; ld2 = up y (p .ld2) })
 restart-sixteen true s p x y h e = record { ld1 = omega arith; ld2 = omega arith }
 restart-sixteen false s p x y h e = record { ld1 = rw e (h .ld1); ld2 = omega arith }
 
 -- a scanline's end, by the mode's steps
-pub ended-moves : (d : Scan) → Sixteen (d .at) → ended d ≡ record { pending = d .pending; block = d .block; number = d .number; at = advanced (rise1 (d .block) 46) (lineRise2 (d .block)) (d .at); left = d .left - 1 }
+pub ended-moves : (d : Scan) → SixteenBits (d .at) → ended d ≡ record { pending = d .pending; block = d .block; number = d .number; at = advanced (rise1 (d .block) 46) (lineRise2 (d .block)) (d .at); left = d .left - 1 }
 unfolding ended
 ended-moves d h = rw (line-moves (d .block) (d .at) h)
 
 -- the first scanline of a step
-skip-one : (d : Scan) → Sixteen (d .at) → ended d ≡ skipped d 1
+skip-one : (d : Scan) → SixteenBits (d .at) → ended d ≡ skipped d 1
 unfolding skipped
 skip-one d h =
     ended-moves d h ∙ rw (pick-same {A = ℕ} (vres (d .block)) 1, one-mul (rise1 (d .block) 46), one-mul (lineRise2 (d .block)))
 
 -- a further one
-skip-more : (d : Scan) (n : ℕ) → Sixteen (d .at) → restarted d → ended (continued (skipped d n)) ≡ skipped d (suc n)
+skip-more : (d : Scan) (n : ℕ) → SixteenBits (d .at) → restarted d → ended (continued (skipped d n)) ≡ skipped d (suc n)
 unfolding skipped continued advanced restarted
 skip-more d n h e =
     let b = d .block in
@@ -89,7 +89,7 @@ next-inside : (g : Registers) (ram : List ℕ) (c : Scan) → loads c ≡ false 
 unfolding nextScan begun
 next-inside g ram c h = rw h
 
-module _ (g : Registers) (ram : List ℕ) (c : Scan) (h : Sixteen (begun g ram c .at)) where
+module _ (g : Registers) (ram : List ℕ) (c : Scan) (h : SixteenBits (begun g ram c .at)) where
   -- n + 1 scanlines of one mode line, the first of which may load its block
   pub lines-inside : (n : ℕ) → (0 < n → begun g ram c .pending ≡ false) → n < begun g ram c .left → scanAfter g ram (suc n) c ≡ skipped (begun g ram c) (suc n)
   unfolding nextScan

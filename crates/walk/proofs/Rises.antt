@@ -15,7 +15,7 @@ use Rattle.blocks.proofs.ActiveSlots.{active-none, active-more}
 use Rattle.walk.specs.Steps.{stepsOf, advanced, rise1, rise2}
 
 -- pointers of 16 bits
-pub record Sixteen (p : Pointers) : Type 0 where
+pub record SixteenBits (p : Pointers) : Type 0 where
   pub ld1 : p .ld1 < 65536
   pub ld2 : p .ld2 < 65536
 
@@ -31,17 +31,17 @@ up-none : (x : ℕ) → x < 65536 → up 0 x ≡ x
 up-none x h = rw add-zero (mod-eq-of-lt h)
 
 -- to go up by nothing changes no 16-bit pointers
-pub advanced-none : (p : Pointers) → Sixteen p → advanced 0 0 p ≡ p
+pub advanced-none : (p : Pointers) → SixteenBits p → advanced 0 0 p ≡ p
 unfolding advanced
 advanced-none p h = rw (up-none (p .ld1) (h .ld1), up-none (p .ld2) (h .ld2))
 
 -- advanced pointers have 16 bits
-pub advanced-sixteen : (m n : ℕ) (p : Pointers) → Sixteen (advanced m n p)
+pub advanced-sixteen : (m n : ℕ) (p : Pointers) → SixteenBits (advanced m n p)
 unfolding advanced
 advanced-sixteen m n p = record { ld1 = omega arith; ld2 = omega arith }
 
 -- what an active slot does to the pointers, in every mode
-pub slot-advances : (m : Mode) (p : Pointers) → Sixteen p → slotPointers m p ≡ advanced (stepsOf m .ld1) (stepsOf m .ld2) p
+pub slot-advances : (m : Mode) (p : Pointers) → SixteenBits p → slotPointers m p ≡ advanced (stepsOf m .ld1) (stepsOf m .ld2) p
 unfolding advanced
 slot-advances VSYNC p h = sym (advanced-none p h)
 slot-advances PIXEL p h = rw (up-none (p .ld2) (h .ld2))
@@ -51,7 +51,7 @@ slot-advances UNUSED p h = sym (advanced-none p h)
 slot-advances LPIXEL p h = rw (up-none (p .ld2) (h .ld2))
 
 -- what a scanline's end does to the pointers, in every mode
-pub line-advances : (m : Mode) (p : Pointers) → Sixteen p → linePointers m p ≡ advanced 0 (stepsOf m .line) p
+pub line-advances : (m : Mode) (p : Pointers) → SixteenBits p → linePointers m p ≡ advanced 0 (stepsOf m .line) p
 unfolding advanced
 line-advances VSYNC p h = sym (advanced-none p h)
 line-advances PIXEL p h = sym (advanced-none p h)
@@ -61,12 +61,12 @@ line-advances UNUSED p h = sym (advanced-none p h)
 line-advances LPIXEL p h = sym (advanced-none p h)
 
 -- a slot, active or not
-pub past-slot : (t : Bool) (b : Block) (p : Pointers) → Sixteen p → pastSlot t b p ≡ advanced (stepsOf (modeOf b) .ld1 * number t) (stepsOf (modeOf b) .ld2 * number t) p
+pub past-slot : (t : Bool) (b : Block) (p : Pointers) → SixteenBits p → pastSlot t b p ≡ advanced (stepsOf (modeOf b) .ld1 * number t) (stepsOf (modeOf b) .ld2 * number t) p
 past-slot true b p h = rw (mul-one, mul-one) (slot-advances (modeOf b) p h)
 past-slot false b p h = rw (mul-zero, mul-zero) (sym (advanced-none p h))
 
 -- the pointers after the first n dot slots
-pub pointers-after : (b : Block) (n : ℕ) (p : Pointers) → Sixteen p → pointersAfter b n p ≡ advanced (rise1 b n) (rise2 b n) p
+pub pointers-after : (b : Block) (n : ℕ) (p : Pointers) → SixteenBits p → pointersAfter b n p ≡ advanced (rise1 b n) (rise2 b n) p
 pointers-after b zero p h = rw (active-none b, mul-zero, mul-zero) (sym (advanced-none p h))
 pointers-after b (suc n) p h =
     let s = stepsOf (modeOf b) in

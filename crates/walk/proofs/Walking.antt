@@ -14,7 +14,7 @@ use Rattle.nick.proofs.WellFormed.{begun-some, begun-formed}
 use Rattle.laws.proofs.StatesAfter.{scan-add}
 use Rattle.walk.specs.Steps.{skipped}
 use Rattle.walk.specs.Walks.{Reached}
-use Rattle.walk.proofs.Rises.{Sixteen}
+use Rattle.walk.proofs.Rises.{SixteenBits}
 use Rattle.walk.proofs.Lines.{lines-inside}
 
 -- a well-formed scan begins well-formed, with a scanline left
@@ -36,11 +36,11 @@ together d lines h l = go (d .pending) refl
     go false e = record { some = omega arith; most = omega arith; within = omega arith; pending = λ _. e }
 
 -- and they end at the closed form
-pub reached : (g : Registers) (ram : List ℕ) (c d : Scan) (lines n : ℕ) → d ≡ begun g ram c → Sixteen (d .at) → Formed d → Together d lines n → Reached g ram c n (skipped d n)
+pub reached : (g : Registers) (ram : List ℕ) (c d : Scan) (lines n : ℕ) → d ≡ begun g ram c → SixteenBits (d .at) → Formed d → Together d lines n → Reached g ram c n (skipped d n)
 unfolding skipped
 reached g ram c d lines zero e h f t = absurd (not-suc-le-zero (t .some))
 reached g ram c d lines (suc n) e h f t =
-    let h′ : Sixteen (begun g ram c .at) = rw e at h in
+    let h′ : SixteenBits (begun g ram c .at) = rw e at h in
     let q : 0 < n → begun g ram c .pending ≡ false = λ k. rw e at (t .pending (omega arith)) in
     let l : n < begun g ram c .left = rw e at (t .within) in
     record {

@@ -2,7 +2,7 @@
 use Prim.Native.Nat.{_≤_}
 use native.Mathlib.Omega.{arith}
 use Rattle.nick.specs.Refusals.{Formed}
-use Rattle.walk.proofs.Rises.{Sixteen}
+use Rattle.walk.proofs.Rises.{SixteenBits}
 use Rattle.walk.proofs.Walking.{Together, begins-formed, together, reached}
 use borrow.Author.Needs.{needs}
 use Rattle.walk.proofs.turn.Statement.{statement}
@@ -37,7 +37,7 @@ returns c =
     let a = c .before .before .before .before .args in
     let begin = c .before .before .begin in
     let on = inside (c .before) in
-    let pointers : Sixteen (begin .result .at) = record { ld1 = omega (arith, begin .ok); ld2 = omega (arith, begin .ok) } in
+    let pointers : SixteenBits (begin .result .at) = record { ld1 = omega (arith, begin .ok); ld2 = omega (arith, begin .ok) } in
     record {
       reached = rw (c .skip .ensures) (reached (a .registers) (a .ram .now) (a .scan) (begin .result) (a .lines) (c .before .lines-inside .result) (begin .ensures) pointers (begins (c .before) .1) on);
       some = on .some;
