@@ -6,33 +6,30 @@ ghost use Rattle.nick.specs.Blocks.{begun};
 ghost use Rattle.nick.specs.Scanline.{scanAfter};
 ghost use Rattle.nick.specs.Direct.{answered, direct};
 ghost use Rattle.nick.specs.Refusals.{Formed, badPlace, directRefusal};
-ghost use Rattle.direct.specs.Answers.{fetchedAnswer, dotAnswer};
+ghost use Rattle.direct.specs.Answers.{fetchedColour, dotAnswer};
 use fetch::Fetched;
 use nick::Answer;
 use nick::Block;
 use nick::Registers;
 use nick::Scan;
-use nick::Sources;
 use nick::State;
 
-// Dot `j` of a slot that fetched or not.
-fn fetched_dot(
+// The colour of dot `j` of a slot that fetched or not.
+fn fetched_colour(
     registers: Registers,
     block: Block,
     fetched: Fetched,
     j: usize,
     external: u8,
-) -> Answer
+) -> u8
     requires { ⌜ j < 16 ⌝ }
-    ensures { λ r. ⌜ answered r ≡ fetchedAnswer registers block fetched j external ⌝ }
+    ensures { λ r. ⌜ r ≡ fetchedColour registers block fetched j external ⌝ }
 {
     if fetched.count == 0 {
-        return Answer::Colour(fetch::unfetched(registers, block), Sources::Nothing);
+        return fetch::unfetched(registers, block);
     }
     let pixel = fetch::pixel_at(fetched, j);
-    let sources = fetch::sources_at(fetched, j);
-    let shown = colour::mixed_colour(registers, block, pixel, external);
-    Answer::Colour(shown, sources)
+    colour::mixed_colour(registers, block, pixel, external)
 }
 
 // Dot `dot` of a scanline that has begun as `scan` says.
@@ -45,7 +42,9 @@ fn begun_dot(registers: Registers, ram: &[u8], scan: Scan, dot: usize, external:
     let slot = dot / 16;
     let at = walk::pointers_at(block, at, slot as u16);
     let fetched = fetch::fetch_slot(ram, block, slot, at);
-    fetched_dot(registers, block, fetched, dot % 16, external)
+    let shown = fetched_colour(registers, block, fetched, dot % 16, external);
+    let sources = fetch::sources_at(ram, block, slot, at, dot % 16);
+    Answer::Colour(shown, sources)
 }
 
 // The scan as scanline `line` from here begins.

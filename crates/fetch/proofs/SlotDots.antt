@@ -1,4 +1,4 @@
--- What a slot fetched shows and names as the rules say, in every mode.
+-- What a slot fetched shows as the rules say, in every mode.
 use mathlib.Core.Path.{_≡_, refl, sym, ap, _∙_}
 use mathlib.Core.Bool.{Bool, true, false}
 use mathlib.Core.List.{List, [], _∷_, map}
@@ -14,14 +14,13 @@ use Rattle.nick.specs.Slots.{Mode, VSYNC, PIXEL, ATTR, CH, UNUSED, LPIXEL, font
 use Rattle.nick.specs.Colour.{two, pixelsIn, sharing, coloursOf, graphicsPixel, pixelOf, characterAdded, attributePixel, dotIn}
 use Rattle.nick.specs.External.{mixedColour, dotColour}
 use Rattle.nick.specs.Sync.{syncs}
-use Rattle.nick.specs.Direct.{addressesOf}
 use Rattle.nick.specs.declared.Registers.{Registers}
 use Rattle.nick.specs.declared.Pointers.{Pointers}
 use Rattle.nick.specs.declared.Block.{Block}
 use Rattle.nick.specs.declared.Pixel.{Pixel}
 use Rattle.colour.specs.Cell.{cellPixel, paletteNumber}
 use Rattle.colour.proofs.Cells.{graphics-pixel, character-pixel, attribute-pixel, sharing-halves, cell-below}
-use Rattle.fetch.specs.Fetches.{fetchedIn, fetchedAt, slotPixel, slotSources}
+use Rattle.fetch.specs.Fetches.{fetchedIn, fetchedAt, slotPixel}
 use Rattle.fetch.specs.declared.Fetched.{Fetched}
 
 -- a slot's palette numbers are below 16, whatever its cells hold
@@ -105,28 +104,3 @@ module _ (g : Registers) (ram : List ℕ) (b : Block) (p : Pointers) where
   few true (CH width) = omega arith
   few true UNUSED = omega arith
   few true LPIXEL = omega arith
-
-  -- the addresses that a dot comes from
-  pixel-named : (j : ℕ) → j < 16 → Dec (j < 8) → addressesOf (slotSources (fetchedIn PIXEL ram b p) j) ≡ dotAddresses PIXEL ram p j
-  pixel-named j h (yes l) = let half : j / 8 ≡ 0 = omega arith in rw (half, lt-ltb j 8 l)
-  pixel-named j h (no l) = let half : j / 8 ≡ 1 = omega arith in rw (half, le-ltb j 8 (omega arith))
-
-  pub named : (active : Bool) (m : Mode) (j : ℕ) → j < 16
-      → addressesOf (slotSources (fetchedAt active m ram b p) j) ≡ pick active (dotAddresses m ram p j) []
-  named false m j h = refl
-  named true VSYNC j h = refl
-  named true PIXEL j h = pixel-named j h (decLt j 8)
-  named true ATTR j h = refl
-  named true (CH width) j h = refl
-  named true UNUSED j h = refl
-  named true LPIXEL j h = refl
-
-  -- a slot that fetches nothing names nothing
-  pub unnamed : (active : Bool) (m : Mode) (j : ℕ) → fetchedAt active m ram b p .count ≡ 0 → pick active (dotAddresses m ram p j) [] ≡ []
-  unnamed false m j e = refl
-  unnamed true VSYNC j e = refl
-  unnamed true PIXEL j e = absurd (omega arith)
-  unnamed true ATTR j e = absurd (omega arith)
-  unnamed true (CH width) j e = absurd (omega arith)
-  unnamed true UNUSED j e = refl
-  unnamed true LPIXEL j e = absurd (omega arith)

@@ -1,5 +1,5 @@
--- What a slot fetches, as the cells that it shows, and what its dots come from. Nothing here is a rule of the chip:
--- crates/fetch/proofs/SlotDots.antt says that these dots and addresses are the rules'.
+-- What a slot fetches, as the cells that it shows. Nothing here is a rule of the chip: crates/fetch/proofs/SlotDots.antt says that
+-- the dots of these cells are the rules'.
 use Prim.Native.Nat.{ℕ, _-_, _/_}
 use mathlib.Core.Bool.{Bool, true, false}
 use mathlib.Core.List.{List}
@@ -10,19 +10,17 @@ use Rattle.nick.specs.Slots.{Mode, VSYNC, PIXEL, ATTR, CH, UNUSED, LPIXEL, font
 use Rattle.nick.specs.declared.Pointers.{Pointers}
 use Rattle.nick.specs.declared.Block.{Block}
 use Rattle.nick.specs.declared.Pixel.{Pixel}
-use Rattle.nick.specs.declared.Sources.{Sources}
-use Rattle.nick.specs.declared.Sources.the-variants.{Nothing, One, Two}
 use Rattle.colour.specs.Cell.{graphicsCell, characterCell, attributeCell, cellPixel}
 use Rattle.colour.specs.declared.Cell.{Cell}
 use Rattle.fetch.specs.declared.Fetched.{Fetched}
 
 -- one cell over all sixteen dots
-abbrev pub oneCell : Cell → Pointers → ℕ → Sources → Fetched
-oneCell cell p n s = record { halves = false; first = cell; second = cell; at = p; count = n; from = s }
+abbrev pub oneCell : Cell → Pointers → ℕ → Fetched
+oneCell cell p n = record { halves = false; first = cell; second = cell; at = p; count = n }
 
 -- nothing
 abbrev pub noFetch : Pointers → Fetched
-noFetch p = oneCell (record { colours = 0; byte = 0; low = 0; high = 0 }) p 0 Nothing
+noFetch p = oneCell (record { colours = 0; byte = 0; low = 0; high = 0 }) p 0
 
 -- what an active slot fetches in a video mode
 abbrev pub fetchedIn : Mode → List ℕ → Block → Pointers → Fetched
@@ -33,16 +31,15 @@ fetchedIn PIXEL ram b p = record {
   second = graphicsCell b (byteAt ram (up 1 (p .ld1)));
   at = slotPointers PIXEL p;
   count = 2;
-  from = Two (p .ld1) (up 1 (p .ld1));
 }
 fetchedIn ATTR ram b p =
-    oneCell (attributeCell (byteAt ram (p .ld1)) (byteAt ram (p .ld2))) (slotPointers ATTR p) 2 (Two (p .ld1) (p .ld2))
+    oneCell (attributeCell (byteAt ram (p .ld1)) (byteAt ram (p .ld2))) (slotPointers ATTR p) 2
 fetchedIn (CH width) ram b p =
     let code = byteAt ram (p .ld1) in
     let font = fontAddress width (p .ld2) code in
-    oneCell (characterCell b code (byteAt ram font)) (slotPointers (CH width) p) 2 (Two (p .ld1) font)
+    oneCell (characterCell b code (byteAt ram font)) (slotPointers (CH width) p) 2
 fetchedIn UNUSED ram b p = noFetch p
-fetchedIn LPIXEL ram b p = oneCell (graphicsCell b (byteAt ram (p .ld1))) (slotPointers LPIXEL p) 1 (One (p .ld1))
+fetchedIn LPIXEL ram b p = oneCell (graphicsCell b (byteAt ram (p .ld1))) (slotPointers LPIXEL p) 1
 
 -- what a slot fetches, active or not
 abbrev pub fetchedAt : Bool → Mode → List ℕ → Block → Pointers → Fetched
@@ -52,13 +49,3 @@ fetchedAt active m ram b p = pick active (fetchedIn m ram b p) (noFetch p)
 abbrev pub slotPixel : Fetched → ℕ → Pixel
 slotPixel f j =
     pick (f .halves) (pick (ltb j 8) (cellPixel (f .first) j) (cellPixel (f .second) (j - 8))) (cellPixel (f .first) (j / 2))
-
--- the one of two addresses that a half of the slot comes from
-abbrev pub halfOf : Sources → Bool → Sources
-halfOf Nothing left = Nothing
-halfOf (One a) left = One a
-halfOf (Two a b) left = pick left (One a) (One b)
-
--- the addresses that dot j of a slot comes from
-abbrev pub slotSources : Fetched → ℕ → Sources
-slotSources f j = pick (f .halves) (halfOf (f .from) (ltb j 8)) (f .from)

@@ -1,14 +1,16 @@
-// What a slot fetches: the cells that it shows, the pointers after it, how many bytes and from where; and what its dots come from.
+// What a slot fetches: the cells that it shows, the pointers after it, how many bytes; and what each of its dots comes from.
 mod font;
 
 ghost use mathlib.Core.Path.{_≡_};
 ghost use Prim.Native.Nat.{_<_, _≤_};
 ghost use lib.ListN.{length};
-ghost use Rattle.nick.specs.Slots.{PIXEL, ATTR, CH, LPIXEL, modeOf};
+ghost use mathlib.Core.List.{[]};
+ghost use Rattle.nick.specs.Slots.{PIXEL, ATTR, CH, LPIXEL, modeOf, dotAddresses};
+ghost use Rattle.nick.specs.Direct.{addressesOf};
 ghost use Rattle.lists.specs.Choice.{pick};
 ghost use Rattle.nick.specs.Scanline.{activeAt};
 ghost use Rattle.nick.specs.Sync.{syncs};
-ghost use Rattle.fetch.specs.Fetches.{oneCell, noFetch, fetchedIn, fetchedAt, slotPixel, halfOf, slotSources};
+ghost use Rattle.fetch.specs.Fetches.{oneCell, noFetch, fetchedIn, fetchedAt, slotPixel};
 use colour::Cell;
 use nick::Block;
 use nick::Pixel;
@@ -17,20 +19,19 @@ use nick::Registers;
 use nick::Sources;
 use std::num::wrapping_add_u16;
 
-// In PIXEL two cells of eight dots each, else the first alone over sixteen; the pointers after the slot; how many bytes were
-// fetched, and from where.
+// In PIXEL two cells of eight dots each, else the first alone over sixteen; the pointers after the slot, and how many bytes were
+// fetched.
 pub struct Fetched {
     pub halves: bool,
     pub first: Cell,
     pub second: Cell,
     pub at: Pointers,
     pub count: u8,
-    pub from: Sources,
 }
 
 // One cell over all sixteen dots.
-fn one_cell(cell: Cell, at: Pointers, count: u8, from: Sources) -> Fetched
-    ensures { λ r. ⌜ r ≡ oneCell cell at count from ⌝ }
+fn one_cell(cell: Cell, at: Pointers, count: u8) -> Fetched
+    ensures { λ r. ⌜ r ≡ oneCell cell at count ⌝ }
 {
     Fetched {
         halves: false,
@@ -38,7 +39,6 @@ fn one_cell(cell: Cell, at: Pointers, count: u8, from: Sources) -> Fetched
         second: cell,
         at,
         count,
-        from,
     }
 }
 
@@ -52,7 +52,7 @@ fn no_fetch(at: Pointers) -> Fetched
         low: 0,
         high: 0,
     };
-    one_cell(cell, at, 0, Sources::Nothing)
+    one_cell(cell, at, 0)
 }
 
 // PIXEL: two bytes of eight dots.
@@ -74,7 +74,6 @@ fn pixel(ram: &[u8], block: Block, at: Pointers) -> Fetched
         second,
         at,
         count: 2,
-        from: Sources::Two(a, b),
     }
 }
 
@@ -90,7 +89,7 @@ fn attribute(ram: &[u8], block: Block, at: Pointers) -> Fetched
         ld1: wrapping_add_u16(attribute, 1),
         ld2: wrapping_add_u16(display, 1),
     };
-    one_cell(cell, at, 2, Sources::Two(attribute, display))
+    one_cell(cell, at, 2)
 }
 
 // A character mode: a code of `width` bits, and a byte of sixteen dots from the font.
@@ -106,7 +105,7 @@ fn character(ram: &[u8], block: Block, width: u8, at: Pointers) -> Fetched
         ld1: wrapping_add_u16(a, 1),
         ld2: at.ld2,
     };
-    one_cell(cell, at, 2, Sources::Two(a, display))
+    one_cell(cell, at, 2)
 }
 
 // LPIXEL: one byte of sixteen dots.
@@ -120,7 +119,7 @@ fn lpixel(ram: &[u8], block: Block, at: Pointers) -> Fetched
         ld1: wrapping_add_u16(a, 1),
         ld2: at.ld2,
     };
-    one_cell(cell, at, 1, Sources::One(a))
+    one_cell(cell, at, 1)
 }
 
 // What an active slot fetches: the video mode's number decides.
@@ -177,31 +176,41 @@ pub fn pixel_at(fetched: Fetched, j: usize) -> Pixel
     colour::pixel_at(fetched.first, (j / 2) as u8)
 }
 
-// The one of two addresses that a half of the slot comes from.
-fn half_of(from: Sources, left: bool) -> Sources
-    ensures { λ r. ⌜ r ≡ halfOf from left ⌝ }
+// The addresses that dot `j` of an active slot comes from.
+fn active_sources(ram: &[u8], block: Block, at: Pointers, j: usize) -> Sources
+    requires { ⌜ (length (now ram) ≡ 65536) × (j < 16) ⌝ }
+    ensures { λ r. ⌜ addressesOf r ≡ dotAddresses (modeOf block) (now (ram .entry)) at j ⌝ }
 {
-    match from {
-        Sources::Nothing => Sources::Nothing,
-        Sources::One(a) => Sources::One(a),
-        Sources::Two(a, b) => {
-            if left {
-                Sources::One(a)
+    let mode = block.mb / 2 % 8;
+    match mode {
+        0 => Sources::Nothing,
+        1 => {
+            if j < 8 {
+                Sources::One(at.ld1)
             } else {
-                Sources::One(b)
+                Sources::One(wrapping_add_u16(at.ld1, 1))
             }
         }
+        2 => Sources::Two(at.ld1, at.ld2),
+        3..=5 => {
+            let code = ram[at.ld1 as usize];
+            Sources::Two(at.ld1, font::font_address(11 - mode, at.ld2, code))
+        }
+        6 => Sources::Nothing,
+        _ => Sources::One(at.ld1),
     }
 }
 
-// The addresses that dot `j` of a slot comes from.
-pub fn sources_at(fetched: Fetched, j: usize) -> Sources
-    ensures { λ r. ⌜ r ≡ slotSources fetched j ⌝ }
+// The addresses that dot `j` of dot slot `n` comes from, active or not. `Fetched` does not hold them: painting hands it on at each
+// slot, and needs none.
+pub fn sources_at(ram: &[u8], block: Block, n: usize, at: Pointers, j: usize) -> Sources
+    requires { ⌜ (length (now ram) ≡ 65536) × (n < 46) × (j < 16) ⌝ }
+    ensures { λ r. ⌜ addressesOf r ≡ pick (activeAt block n) (dotAddresses (modeOf block) (now (ram .entry)) at j) [] ⌝ }
 {
-    let from = fetched.from;
-    if fetched.halves {
-        half_of(from, j < 8)
+    let place = n as u16;
+    if blocks::is_active(block, place) {
+        active_sources(ram, block, at, j)
     } else {
-        from
+        Sources::Nothing
     }
 }

@@ -6,7 +6,6 @@
 ghost use mathlib.Core.Path.{_≡_};
 ghost use Prim.Native.Nat.{_*_, _≤_};
 ghost use lib.ListN.{length};
-ghost use Rattle.nick.specs.Sizes.{recordBytes};
 ghost use Rattle.lists.specs.Choice.{pick};
 ghost use Rattle.nickpaint.specs.Arguments.{isClash, isInput, linesStamped, stamps};
 ghost use Rattle.nickpaint.specs.Paintings.{PaintsAfter};
