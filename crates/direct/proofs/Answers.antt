@@ -1,39 +1,123 @@
--- Laws on the direct answer as a whole: its refusals, and its colour and names by the dot's slot.
-use mathlib.Core.Path.{_≡_}
-use mathlib.Core.Bool.{true, false}
-use mathlib.Core.List.{List, []}
-use Prim.Native.Nat.{ℕ, _/_, _%_, _≤_, _<_}
+-- Laws on the direct answer as a whole: a dot shown from the bytes at its addresses is the rules' dot, and the refusals.
+use mathlib.Core.Path.{_≡_, refl, _∙_}
+use mathlib.Core.Bool.{Bool, true, false}
+use mathlib.Core.List.{List, [], _∷_, map}
+use Prim.Native.Nat.{ℕ, zero, suc, _-_, _/_, _%_, _≤_, _<_}
+use native.Mathlib.Decide.{decLt}
 use native.Mathlib.Omega.{arith}
-use borrow.Author.Tests.{ne-eqb}
+use lib.Dec.{eqb}
+use borrow.Author.Tests.{ne-eqb, lt-ltb, le-ltb}
 use Rattle.lists.specs.Choice.{pick}
 use Rattle.nick.specs.Numbers.{byteAt}
 use Rattle.nick.specs.Blocks.{begun}
-use Rattle.nick.specs.Slots.{modeOf, dotAddresses}
+use Rattle.nick.specs.Slots.{Mode, VSYNC, PIXEL, ATTR, CH, UNUSED, LPIXEL, modeNumber, modeNumbered, modeOf, dotAddresses}
+use Rattle.nick.specs.Colour.{coloursOf, dotIn}
+use Rattle.nick.specs.External.{dotColour, mixedColour}
 use Rattle.nick.specs.Scanline.{activeAt, pointersAfter, scanAfter}
+use Rattle.nick.specs.Sync.{syncs}
 use Rattle.nick.specs.Refusals.{illFormed, notFull, badPlace, directRefusal}
 use Rattle.nick.specs.Direct.{shows, refused, directColour, directNames, direct}
 use Rattle.nick.specs.declared.Registers.{Registers}
 use Rattle.nick.specs.declared.Pointers.{Pointers}
+use Rattle.nick.specs.declared.Block.{Block}
 use Rattle.nick.specs.declared.Scan.{Scan}
 use Rattle.nick.specs.declared.State.{State}
+use Rattle.nick.proofs.Modes.{below-eight}
 use Rattle.laws.proofs.LineDots.{line-dot}
-use Rattle.fetch.specs.Fetches.{fetchedAt}
-use Rattle.fetch.specs.declared.Fetched.{Fetched}
+use Rattle.colour.specs.Cell.{graphicsCell, cellPixel}
+use Rattle.fetch.specs.Fetches.{fetchedIn, slotPixel}
 use Rattle.fetch.proofs.SlotDots.{mode-dot}
-use Rattle.direct.specs.Answers.{fetchedColour, dotAnswer}
+use Rattle.direct.specs.Answers.{cellFrom, byteColour, sourcedColour, dotAnswer}
 
--- the colour of what the dot's slot fetched, and the addresses there, are the rules' answer
+-- modes 0, 1, 6 and 7 have one byte
+pub low-cell : (b : Block) (first second m : ℕ) → m < 2 → graphicsCell b first ≡ cellFrom (modeNumbered m) b first second
+unfolding modeNumbered
+low-cell b first second zero h = refl
+low-cell b first second (suc zero) h = refl
+low-cell b first second (suc (suc m)) h = absurd (too-large m h)
+  where
+    too-large : (n : ℕ) → suc (suc n) < 2 → ⊥
+    too-large n l = omega arith
+
+pub high-cell : (b : Block) (first second m : ℕ) → 5 < m → m < 8 → graphicsCell b first ≡ cellFrom (modeNumbered m) b first second
+unfolding modeNumbered
+high-cell b first second m l h = go (decLt m 7)
+  where
+    go : Dec (m < 7) → graphicsCell b first ≡ cellFrom (modeNumbered m) b first second
+    go (yes k) = let six : m ≡ 6 = omega arith in rw six
+    go (no k) = let seven : m ≡ 7 = omega arith in rw seven
+
+-- PIXEL is mode 1
+abbrev isPixel : Mode → Bool
+isPixel VSYNC = false
+isPixel PIXEL = true
+isPixel ATTR = false
+isPixel (CH width) = false
+isPixel UNUSED = false
+isPixel LPIXEL = false
+
+pixel-one : (n : ℕ) → n < 8 → eqb n 1 ≡ isPixel (modeNumbered n)
+unfolding modeNumbered
+pixel-one = below-eight (λ n. eqb n 1 ≡ isPixel (modeNumbered n)) refl refl refl refl refl refl refl refl
+
+module _
+    (g : Registers) (ram : List ℕ) (b : Block) (p : Pointers) (j e : ℕ)
+    (inside : j < 16) (low : byteAt ram (p .ld1) < 256) where
+  -- what a dot's bytes show, by the mode
+  abbrev shownBy : Mode → List ℕ → ℕ
+  shownBy m [] = pick (syncs m) 0 (g .border)
+  shownBy m (first ∷ []) = mixedColour g b (cellPixel (cellFrom m b first 0) (pick (isPixel m) (j % 8) (j / 2))) e
+  shownBy m (first ∷ second ∷ more) = mixedColour g b (cellPixel (cellFrom m b first second) (pick (isPixel m) (j % 8) (j / 2))) e
+
+  shown-is : (bytes : List ℕ) → sourcedColour g b bytes j e ≡ shownBy (modeOf b) bytes
+  unfolding byteColour
+  shown-is [] = refl
+  shown-is (first ∷ []) = rw (pixel-one (modeNumber b) (omega arith))
+  shown-is (first ∷ second ∷ more) = rw (pixel-one (modeNumber b) (omega arith))
+
+  -- each half of a PIXEL slot has its byte
+  halves : Dec (j < 8) → shownBy PIXEL (map (byteAt ram) (dotAddresses PIXEL ram p j)) ≡ mixedColour g b (slotPixel (fetchedIn PIXEL ram b p) j) e
+  halves (yes l) =
+      let half : j / 8 ≡ 0 = omega arith in
+      let rest : j % 8 ≡ j = omega arith in
+      rw (half, rest, lt-ltb j 8 l)
+  halves (no l) =
+      let half : j / 8 ≡ 1 = omega arith in
+      let rest : j % 8 ≡ j - 8 = omega arith in
+      rw (half, rest, le-ltb j 8 (omega arith))
+
+  by-mode :
+      (active : Bool) (m : Mode)
+      → shownBy m (map (byteAt ram) (pick active (dotAddresses m ram p j) []))
+      ≡ dotColour g b (dotIn m active b (coloursOf b) (map (byteAt ram) (dotAddresses m ram p j)) j) e
+  by-mode false VSYNC = refl
+  by-mode false PIXEL = refl
+  by-mode false ATTR = refl
+  by-mode false (CH width) = refl
+  by-mode false UNUSED = refl
+  by-mode false LPIXEL = refl
+  by-mode true VSYNC = refl
+  by-mode true PIXEL = halves (decLt j 8) ∙ mode-dot g ram b p true PIXEL j e inside low
+  by-mode true ATTR = mode-dot g ram b p true ATTR j e inside low
+  by-mode true (CH width) = mode-dot g ram b p true (CH width) j e inside low
+  by-mode true UNUSED = refl
+  by-mode true LPIXEL = mode-dot g ram b p true LPIXEL j e inside low
+
+-- the addresses at a dot's slot, and the colour of the bytes there, are the rules' answer
 pub slot-answer :
-    (g : Registers) (ram : List ℕ) (c : Scan) (x e k : ℕ) (p : Pointers) (f : Fetched) (named : List ℕ)
+    (g : Registers) (ram : List ℕ) (c : Scan) (x e k : ℕ) (p : Pointers) (named : List ℕ)
     → byteAt ram (p .ld1) < 256
     → p ≡ pointersAfter (c .block) (x / 16) (c .at)
-    → f ≡ fetchedAt (activeAt (c .block) (x / 16)) (modeOf (c .block)) ram (c .block) p
-    → k ≡ fetchedColour g (c .block) f (x % 16) e
     → named ≡ pick (activeAt (c .block) (x / 16)) (dotAddresses (modeOf (c .block)) ram p (x % 16)) []
+    → k ≡ sourcedColour g (c .block) (map (byteAt ram) named) (x % 16) e
     → shows (record { colour = k; names = named }) ≡ dotAnswer g ram c x e
-unfolding dotAnswer fetchedColour
-slot-answer g ram c x e k p f named l q is hk hn =
-    rw (hn, hk, is, ← q, mode-dot g ram (c .block) p (activeAt (c .block) (x / 16)) (modeOf (c .block)) (x % 16) e (omega arith) l)
+unfolding dotAnswer
+slot-answer g ram c x e k p named l q hn hk =
+    let b = c .block in
+    let active = activeAt b (x / 16) in
+    let inside : x % 16 < 16 = omega arith in
+    let shown = shown-is g ram b p (x % 16) e inside l (map (byteAt ram) (pick active (dotAddresses (modeOf b) ram p (x % 16)) [])) in
+    rw (hk, hn, shown, by-mode g ram b p (x % 16) e inside l active (modeOf b), q)
 
 module _ (s : State) (ram : List ℕ) (y x e n : ℕ) (given : n ≡ directRefusal s ram y x) where
   -- a refused answer

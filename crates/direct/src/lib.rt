@@ -1,38 +1,95 @@
 // The direct answer: one dot's colour and the addresses that it comes from, without painting.
 ghost use mathlib.Core.Path.{_≡_};
-ghost use Prim.Native.Nat.{_<_};
+ghost use Prim.Native.Nat.{_/_, _%_, _<_};
 ghost use lib.ListN.{length};
 ghost use Rattle.nick.specs.Blocks.{begun};
 ghost use Rattle.nick.specs.Scanline.{scanAfter};
-ghost use Rattle.nick.specs.Direct.{answered, direct};
+ghost use Rattle.nick.specs.Direct.{addressesOf, answered, direct};
 ghost use Rattle.nick.specs.Refusals.{Formed, badPlace, directRefusal};
-ghost use Rattle.direct.specs.Answers.{fetchedColour, dotAnswer};
-use fetch::Fetched;
+ghost use mathlib.Core.List.{map};
+ghost use lib.Dec.{eqb};
+ghost use Rattle.lists.specs.Choice.{pick};
+ghost use Rattle.nick.specs.Numbers.{byteAt};
+ghost use Rattle.nick.specs.Slots.{modeNumber, modeOf};
+ghost use Rattle.direct.specs.Answers.{cellFrom, byteColour, sourcedColour, dotAnswer};
+use colour::Cell;
 use nick::Answer;
 use nick::Block;
 use nick::Registers;
 use nick::Scan;
+use nick::Sources;
 use nick::State;
 
-// The colour of dot `j` of a slot that fetched or not.
-fn fetched_colour(
+// The display byte of a dot made ready, from the bytes that the dot comes from; `second` counts in ATTR and the character modes.
+fn cell_from(block: Block, first: u8, second: u8) -> Cell
+    ensures { λ r. ⌜ r ≡ cellFrom (modeOf block) block first second ⌝ }
+{
+    let mode = block.mb / 2 % 8;
+    match mode {
+        2 => colour::attribute_cell(first, second),
+        3..=5 => colour::character_cell(block, first, second),
+        _ => colour::graphics_cell(block, first),
+    }
+}
+
+// Which eighth of its display byte dot `j` of a slot shows: in PIXEL a byte has eight dots, else sixteen.
+fn eighth_of(block: Block, j: usize) -> u8
+    requires { ⌜ j < 16 ⌝ }
+    ensures { λ r. ⌜ (r ≡ pick (eqb (modeNumber block) 1) (j % 8) (j / 2)) × (r < 8) ⌝ }
+{
+    if block.mb / 2 % 8 == 1 {
+        (j % 8) as u8
+    } else {
+        (j / 2) as u8
+    }
+}
+
+// The colour of dot `j` of a slot, from the bytes that it comes from.
+fn byte_colour(
     registers: Registers,
     block: Block,
-    fetched: Fetched,
+    first: u8,
+    second: u8,
     j: usize,
     external: u8,
 ) -> u8
     requires { ⌜ j < 16 ⌝ }
-    ensures { λ r. ⌜ r ≡ fetchedColour registers block fetched j external ⌝ }
+    ensures { λ r. ⌜ r ≡ byteColour registers block first second j external ⌝ }
 {
-    if fetched.count == 0 {
-        return fetch::unfetched(registers, block);
-    }
-    let pixel = fetch::pixel_at(fetched, j);
+    let cell = cell_from(block, first, second);
+    let pixel = colour::pixel_at(cell, eighth_of(block, j));
     colour::mixed_colour(registers, block, pixel, external)
 }
 
-// Dot `dot` of a scanline that has begun as `scan` says.
+// The colour of dot `j` of a slot that comes from these addresses.
+fn sourced_colour(
+    registers: Registers,
+    ram: &[u8],
+    block: Block,
+    sources: Sources,
+    j: usize,
+    external: u8,
+) -> u8
+    requires { ⌜ (length (now ram) ≡ 65536) × (j < 16) ⌝ }
+    ensures { λ r. ⌜ r ≡ sourcedColour registers block (map (byteAt (now (ram .entry))) (addressesOf sources)) j external ⌝ }
+{
+    match sources {
+        Sources::Nothing => fetch::unfetched(registers, block),
+        Sources::One(a) => byte_colour(registers, block, ram[a as usize], 0, j, external),
+        Sources::Two(a, b) => {
+            byte_colour(
+                registers,
+                block,
+                ram[a as usize],
+                ram[b as usize],
+                j,
+                external,
+            )
+        }
+    }
+}
+
+// Dot `dot` of a scanline that has begun as `scan` says: its addresses, and the colour of the bytes there.
 fn begun_dot(registers: Registers, ram: &[u8], scan: Scan, dot: usize, external: u8) -> Answer
     requires { ⌜ (length (now ram) ≡ 65536) × (dot < 736) ⌝ }
     ensures { λ r. ⌜ answered r ≡ dotAnswer registers (now (ram .entry)) scan dot external ⌝ }
@@ -41,9 +98,8 @@ fn begun_dot(registers: Registers, ram: &[u8], scan: Scan, dot: usize, external:
     let at = scan.at;
     let slot = dot / 16;
     let at = walk::pointers_at(block, at, slot as u16);
-    let fetched = fetch::fetch_slot(ram, block, slot, at);
-    let shown = fetched_colour(registers, block, fetched, dot % 16, external);
     let sources = fetch::sources_at(ram, block, slot, at, dot % 16);
+    let shown = sourced_colour(registers, ram, block, sources, dot % 16, external);
     Answer::Colour(shown, sources)
 }
 
