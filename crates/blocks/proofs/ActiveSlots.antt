@@ -5,7 +5,7 @@ use Prim.Native.Nat.{ℕ, suc, _+_, _-_, min}
 use native.Mathlib.Omega.{arith}
 use lib.Dec.{leb, ltb}
 use borrow.Author.Tests.{ltb-true, ltb-false, leb-true, leb-false}
-use Rattle.lists.specs.Choice.{number}
+use Rattle.lists.specs.Number.{number}
 use Rattle.nick.specs.Slots.{leftMargin, rightMargin, activeSlots}
 use Rattle.nick.specs.Scanline.{activeAt}
 use Rattle.nick.specs.declared.Block.{Block}

@@ -1,7 +1,7 @@
 -- Demand 3: by induction over the calls before, the painting of line y starts from the state after the lines painted so far;
 -- the rest is that painting's own line.
 use mathlib.Core.Path.{_≡_, refl, sym, ap, _∙_}
-use mathlib.Core.Bool.{Bool, true, false}
+use mathlib.Core.Bool.{Bool, true, false, cond}
 use mathlib.Core.List.{List, [], _∷_, _++_}
 use Prim.Native.Nat.{ℕ, _+_, _-_, _*_, _<_}
 use native.Mathlib.Nat.{not-suc-le-zero}
@@ -10,7 +10,6 @@ use native.Mathlib.Omega.{arith}
 use lib.Dec.{eqb}
 use lib.ListN.{length}
 use borrow.Author.Tests.{eqb-true, eq-eqb, le-ltb}
-use Rattle.lists.specs.Choice.{pick}
 use Rattle.nick.specs.Numbers.{byteAt}
 use Rattle.nick.specs.Scanline.{scanAfter}
 use Rattle.nick.specs.Record.{stateAfter}
@@ -43,7 +42,7 @@ formed-before :
     → Formed (s .scan)
 formed-before s ram h external p l e = go (eqb (p .refusal) 0) refl (l .state)
   where
-    go : (t : Bool) → eqb (p .refusal) 0 ≡ t → p .state ≡ stateAfter ram (pick t h 0) s → Formed (s .scan)
+    go : (t : Bool) → eqb (p .refusal) 0 ≡ t → p .state ≡ stateAfter ram (cond t h 0) s → Formed (s .scan)
     go true accepted same = l .formed (eqb-true (p .refusal) 0 accepted)
     go false refused same = rw same at e
 
@@ -116,7 +115,7 @@ demand3 s ram calls before m after y x reach e p =
 adds-line : (m : Made) (y : ℕ) → y < linesOf m → PaintsLine [] m y
 adds-line m y = go (eqb (m .refusal) 0) refl
   where
-    go : (t : Bool) → eqb (m .refusal) 0 ≡ t → y < pick t (heightOf (m .call)) 0 → PaintsLine [] m y
+    go : (t : Bool) → eqb (m .refusal) 0 ≡ t → y < cond t (heightOf (m .call)) 0 → PaintsLine [] m y
     go true e h = record { accepted = eqb-true (m .refusal) 0 e; first = omega arith; last = omega arith }
     go false e h = absurd (not-suc-le-zero h)
 

@@ -1,12 +1,11 @@
 -- No block runs past the end of RAM: by induction over the scanlines the scan stays well-formed, so the number of a block that is
 -- loaded is at most 4,095, and the last byte of that block is at 65,535.
 use mathlib.Core.Path.{_≡_, refl, sym}
-use mathlib.Core.Bool.{Bool, true, false, _||_, or-assoc}
+use mathlib.Core.Bool.{Bool, true, false, cond, _||_, or-assoc}
 use mathlib.Core.List.{List, [], _∷_, _++_}
 use Prim.Native.Nat.{ℕ, zero, suc, _+_, _*_, _<_}
 use native.Mathlib.Omega.{arith}
 use borrow.Author.Tests.{le-ltb}
-use Rattle.lists.specs.Choice.{pick}
 use Rattle.nick.specs.Registers.{zeroPointers, zeroBlock, writtenRegisters, writtenScan, written}
 use Rattle.nick.specs.Blocks.{loads, loadedNumber, decoded, blockAt, loaded, continued, begun}
 use Rattle.nick.specs.Slots.{modeNumbered}
@@ -28,7 +27,7 @@ any-append (n ∷ l) r = rw (any-append l r) (sym (or-assoc (runsPastEnd n) (any
 load-inside : (g : Registers) (c : Scan) → g .lpl < 256 → Formed c → anyPastEnd (loadOf g c) ≡ false
 load-inside g c h f = go (loads c)
   where
-    go : (t : Bool) → anyPastEnd (pick t (loadedNumber g c ∷ []) []) ≡ false
+    go : (t : Bool) → anyPastEnd (cond t (loadedNumber g c ∷ []) []) ≡ false
     go true = rw (le-ltb 65535 (16 * loadedNumber g c + 15) (omega (arith, number-below g c h (f .number))))
     go false = refl
 

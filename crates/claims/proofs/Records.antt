@@ -1,13 +1,12 @@
 -- The line records of paintings: a painted record never begins with 255, a refused painting's records are 255 throughout, and
 -- byte 2 counts at most 108 fetches.
 use mathlib.Core.Path.{_≡_, refl, sym, ap, _∙_}
-use mathlib.Core.Bool.{Bool, true, false, not, _&&_}
+use mathlib.Core.Bool.{Bool, true, false, not, cond, _&&_}
 use mathlib.Core.List.{List, []}
 use Prim.Native.Nat.{ℕ, zero, suc, _*_, _≤_, _<_}
 use native.Mathlib.Nat.{add-zero}
 use native.Mathlib.Omega.{arith}
 use lib.ListN.{length, length-append, getD-replicate}
-use Rattle.lists.specs.Choice.{pick}
 use Rattle.lists.proofs.Tests.{number-le}
 use Rattle.nick.specs.Sizes.{recordBytes}
 use Rattle.nick.specs.Numbers.{bit, byteAt}
@@ -109,7 +108,7 @@ begun-slots n e ram c = ap (λ (m : ℕ). slotsFetched ram (c .block) m (c .at))
 begun-most : (n : ℕ) → n ≡ 46 → (ram : List ℕ) (c : Scan) → length (begunFetches ram c) ≤ 92
 begun-most n e ram c = rw (begun-slots n e ram c) (omega (arith, slots-most ram (c .block) n (c .at)))
 
-load-most : (t : Bool) (n : ℕ) → length (pick t (blockAddresses n) []) ≤ 16
+load-most : (t : Bool) (n : ℕ) → length (cond t (blockAddresses n) []) ≤ 16
 unfolding blockAddresses
 load-most true n = omega arith
 load-most false n = omega arith
@@ -117,5 +116,5 @@ load-most false n = omega arith
 pub fetched-most : (g : Registers) (ram : List ℕ) (c : Scan) → length (lineFetches g ram c) ≤ 108
 unfolding lineFetches
 fetched-most g ram c =
-    rw (length-append (pick (loads c) (blockAddresses (loadedNumber g c)) []) (begunFetches ram (begun g ram c)))
+    rw (length-append (cond (loads c) (blockAddresses (loadedNumber g c)) []) (begunFetches ram (begun g ram c)))
     (omega (arith, load-most (loads c) (loadedNumber g c), begun-most 46 refl ram (begun g ram c)))

@@ -2,8 +2,8 @@
 use mathlib.Core.Path.{_≡_}
 use mathlib.Core.List.{List}
 use Prim.Native.Nat.{ℕ, _<_}
+use mathlib.Core.Bool.{cond}
 use lib.Dec.{eqb}
-use Rattle.lists.specs.Choice.{pick}
 use Rattle.nick.specs.Record.{stateAfter}
 use Rattle.nick.specs.Refusals.{Formed}
 use Rattle.nick.specs.Painting.{paint}
@@ -20,7 +20,7 @@ state-formed ram n s l f = rw (scan-of-state ram n s) (formed-after (s .register
 module _ (s : State) (ram : List ℕ) (h : ℕ) (dots records external : List ℕ) where
   -- how many lines the painting adds
   abbrev added : ℕ
-  added = pick (eqb (paint s ram h dots records external .refusal) 0) h 0
+  added = cond (eqb (paint s ram h dots records external .refusal) 0) h 0
 
   -- a painting, accepted or refused, changes no register
   pub painting-registers : paint s ram h dots records external .state .registers ≡ s .registers

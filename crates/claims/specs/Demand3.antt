@@ -1,12 +1,11 @@
 -- Demand 3 (document 01, "The direct answer"): over any list of paintings the direct answer is the painted dot, and it depends
 -- on few bytes of RAM.
 use mathlib.Core.Path.{_≡_}
-use mathlib.Core.Bool.{false}
+use mathlib.Core.Bool.{false, cond}
 use mathlib.Core.List.{List, [], _∷_, _++_, map}
 use Prim.Native.Nat.{ℕ, _+_, _-_, _*_, _≤_, _<_}
 use lib.Dec.{eqb}
 use lib.ListN.{length}
-use Rattle.lists.specs.Choice.{pick}
 use Rattle.nick.specs.Numbers.{byteAt}
 use Rattle.nick.specs.Painting.{Painting, paint, paintLine}
 use Rattle.nick.specs.Refusals.{illFormed}
@@ -52,7 +51,7 @@ run s ram (c ∷ more) = madeOf s ram c ∷ run (paintingOf s ram c .state) ram 
 
 -- "Lines count on from 0 over the list, a refused painting adding none"
 abbrev pub linesOf : Made → ℕ
-linesOf m = pick (eqb (m .refusal) 0) (heightOf (m .call)) 0
+linesOf m = cond (eqb (m .refusal) 0) (heightOf (m .call)) 0
 
 abbrev pub linesIn : List Made → ℕ
 linesIn [] = 0

@@ -1,11 +1,11 @@
 -- Laws on the alternate bits: two bits that are both set as a product, and what they add to an index and take from a byte.
 use mathlib.Core.Path.{_≡_, refl}
-use mathlib.Core.Bool.{Bool, true, false, _&&_}
+use mathlib.Core.Bool.{Bool, true, false, cond, _&&_}
 use Prim.Native.Nat.{ℕ, zero, suc, _+_, _-_, _*_, _<_, _≤_, zero-le}
 use native.Mathlib.Nat.{not-suc-le-zero, le-of-suc-le-suc, le-refl, zero-mul, one-mul}
 use borrow.Author.Tests.{ne-eqb}
 use lib.Dec.{lit<}
-use Rattle.lists.specs.Choice.{pick, number}
+use Rattle.lists.specs.Number.{number}
 use Rattle.lists.proofs.Tests.{bit-number}
 use Rattle.nick.specs.Numbers.{bit, isSet}
 use Rattle.nick.specs.Colour.{colourNumber, msbAlternate, lsbAlternate, graphicsAdded, graphicsByte, characterAdded}
@@ -35,7 +35,7 @@ product margin k byte j =
     }
 
 -- what the alternate bits add stays below 15
-added-below : (s t : Bool) → pick s 2 0 + pick t 4 0 < 15
+added-below : (s t : Bool) → cond s 2 0 + cond t 4 0 < 15
 added-below true true = lit< tt
 added-below true false = lit< tt
 added-below false true = lit< tt
@@ -50,13 +50,13 @@ unfolding characterAdded
 character-below b code = added-below (isSet 7 (b .rm) && isSet 7 code) (isSet 6 (b .rm) && isSet 6 code)
 
 -- the weighted tests, and the chosen numbers
-added : (s t : Bool) → 2 * number s + 4 * number t ≡ pick s 2 0 + pick t 4 0
+added : (s t : Bool) → 2 * number s + 4 * number t ≡ cond s 2 0 + cond t 4 0
 added true true = refl
 added true false = refl
 added false true = refl
 added false false = refl
 
-cleared : (s t : Bool) (byte : ℕ) → byte - 128 * number s - number t ≡ byte - pick s 128 0 - pick t 1 0
+cleared : (s t : Bool) (byte : ℕ) → byte - 128 * number s - number t ≡ byte - cond s 128 0 - cond t 1 0
 cleared true true byte = refl
 cleared true false byte = refl
 cleared false true byte = refl

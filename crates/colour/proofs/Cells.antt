@@ -1,11 +1,11 @@
 -- The pixels of a cell are the rules' pixels.
 use mathlib.Core.Path.{_≡_, refl, ap}
 use Prim.Native.Nat.{ℕ, zero, suc, _+_, _-_, _*_, _/_, _%_, _<_}
+use mathlib.Core.Bool.{cond}
 use native.Mathlib.Nat.{not-suc-le-zero, le-of-suc-le-suc, mod-lt}
 use native.Mathlib.Omega.{arith}
 use lib.Dec.{eqb, lit<}
-use Rattle.lists.specs.Choice.{pick}
-use Rattle.lists.proofs.Tests.{pick-below}
+use Rattle.lists.proofs.Tests.{cond-below}
 use Rattle.nick.specs.Numbers.{bit}
 use Rattle.nick.specs.Colour.{
   Colours,
@@ -34,7 +34,7 @@ use Rattle.colour.proofs.Weights.{four-below, sixteen-below}
 use Rattle.colour.proofs.Alternates.{graphics-below, character-below}
 
 -- an index below 2 that is raised
-raised-index : (i added : ℕ) → i < 2 → added < 15 → pick (eqb i 0) (added % 16) ((added + 1) % 16) ≡ i + added
+raised-index : (i added : ℕ) → i < 2 → added < 15 → cond (eqb i 0) (added % 16) ((added + 1) % 16) ≡ i + added
 raised-index zero added hi h = omega arith
 raised-index (suc zero) added hi h = omega arith
 raised-index (suc (suc i)) added hi h = absurd (not-suc-le-zero (le-of-suc-le-suc (le-of-suc-le-suc hi)))
@@ -49,7 +49,7 @@ raised-pixel all n byte added k h = refl
 -- a PIXEL or LPIXEL cell's pixels, by the colour mode's number
 graphics-in :
     (n : ℕ) → n < 4 → (b : Block) (byte at : ℕ) →
-    cellPixel (pick (eqb n 0) (raised 0 (graphicsByte b byte) (graphicsAdded b byte)) (raised n byte 0)) at
+    cellPixel (cond (eqb n 0) (raised 0 (graphicsByte b byte) (graphicsAdded b byte)) (raised n byte 0)) at
     ≡ graphicsPixel (coloursNumbered n) b byte (sharing (pixelsIn (coloursNumbered n)) 8 at)
 unfolding cellPixel coloursNumbered
 graphics-in zero h b byte at =
@@ -93,7 +93,7 @@ sharing-halves all j = omega arith
 in-below : (cs : Colours) (cell : Cell) (k : ℕ) → paletteNumber (pixelIn cs cell k) < 16
 in-below two cell k =
     let clear = eqb (bit (7 - k) (cell .byte)) 0 in
-    pick-below clear (cell .low % 16) (cell .high % 16) 16 (mod-lt (cell .low) (lit< tt)) (mod-lt (cell .high) (lit< tt))
+    cond-below clear (cell .low % 16) (cell .high % 16) 16 (mod-lt (cell .low) (lit< tt)) (mod-lt (cell .high) (lit< tt))
 in-below four cell k = four-below (cell .byte) k
 in-below sixteen cell k = sixteen-below (cell .byte) k
 in-below all cell k = lit< tt

@@ -1,11 +1,11 @@
 -- A display byte made ready to be shown, and the pixel at each eighth of it. Nothing here is a rule of the chip:
 -- proofs/Cells.antt says that these pixels are the rules'.
 use mathlib.Core.Path.{_≡_}
-use mathlib.Core.Bool.{_&&_}
+use mathlib.Core.Bool.{cond, _&&_}
 use mathlib.Core.List.{List}
 use Prim.Native.Nat.{ℕ, _+_, _/_, _%_, _≤_}
 use lib.Dec.{eqb}
-use Rattle.lists.specs.Choice.{pick, number}
+use Rattle.lists.specs.Number.{number}
 use Rattle.lists.specs.Tab.{tab}
 use Rattle.nick.specs.Numbers.{bit, isSet}
 use Rattle.nick.specs.Colour.{
@@ -39,7 +39,7 @@ raised colours byte added = record { colours = colours; byte = byte; low = added
 -- a PIXEL or LPIXEL display byte; the alternate bits act in two colours alone
 unfoldable pub graphicsCell : Block → ℕ → Cell
 graphicsCell b byte =
-    pick (eqb (colourNumber b) 0)
+    cond (eqb (colourNumber b) 0)
     (raised 0 (graphicsByte b byte) (graphicsAdded b byte))
     (raised (colourNumber b) byte 0)
 
@@ -53,7 +53,7 @@ attributeCell attribute byte = record { colours = 0; byte = byte; low = attribut
 
 -- pixel k of a display byte
 abbrev pub pixelIn : Colours → Cell → ℕ → Pixel
-pixelIn two cell k = Palette (pick (eqb (twoIndex (cell .byte) k) 0) (cell .low % 16) (cell .high % 16))
+pixelIn two cell k = Palette (cond (eqb (twoIndex (cell .byte) k) 0) (cell .low % 16) (cell .high % 16))
 pixelIn four cell k = Palette (fourIndex (cell .byte) k)
 pixelIn sixteen cell k = Palette (sixteenIndex (cell .byte) k)
 pixelIn all cell k = Direct (cell .byte)

@@ -1,13 +1,12 @@
 -- Laws on the direct answer as a whole: a dot shown from the bytes at its addresses is the rules' dot, and the refusals.
 use mathlib.Core.Path.{_≡_, refl, _∙_}
-use mathlib.Core.Bool.{Bool, true, false}
+use mathlib.Core.Bool.{Bool, true, false, cond}
 use mathlib.Core.List.{List, [], _∷_, map}
 use Prim.Native.Nat.{ℕ, zero, suc, _-_, _/_, _%_, _≤_, _<_}
 use native.Mathlib.Decide.{decLt}
 use native.Mathlib.Omega.{arith}
 use lib.Dec.{eqb}
 use borrow.Author.Tests.{ne-eqb, lt-ltb, le-ltb}
-use Rattle.lists.specs.Choice.{pick}
 use Rattle.nick.specs.Numbers.{byteAt}
 use Rattle.nick.specs.Blocks.{begun}
 use Rattle.nick.specs.Slots.{Mode, VSYNC, PIXEL, ATTR, CH, UNUSED, LPIXEL, modeNumber, modeNumbered, modeOf, dotAddresses}
@@ -65,9 +64,9 @@ module _
     (inside : j < 16) (low : byteAt ram (p .ld1) < 256) where
   -- what a dot's bytes show, by the mode
   abbrev shownBy : Mode → List ℕ → ℕ
-  shownBy m [] = pick (syncs m) 0 (g .border)
-  shownBy m (first ∷ []) = mixedColour g b (cellPixel (cellFrom m b first 0) (pick (isPixel m) (j % 8) (j / 2))) e
-  shownBy m (first ∷ second ∷ more) = mixedColour g b (cellPixel (cellFrom m b first second) (pick (isPixel m) (j % 8) (j / 2))) e
+  shownBy m [] = cond (syncs m) 0 (g .border)
+  shownBy m (first ∷ []) = mixedColour g b (cellPixel (cellFrom m b first 0) (cond (isPixel m) (j % 8) (j / 2))) e
+  shownBy m (first ∷ second ∷ more) = mixedColour g b (cellPixel (cellFrom m b first second) (cond (isPixel m) (j % 8) (j / 2))) e
 
   shown-is : (bytes : List ℕ) → sourcedColour g b bytes j e ≡ shownBy (modeOf b) bytes
   unfolding byteColour
@@ -88,7 +87,7 @@ module _
 
   by-mode :
       (active : Bool) (m : Mode)
-      → shownBy m (map (byteAt ram) (pick active (dotAddresses m ram p j) []))
+      → shownBy m (map (byteAt ram) (cond active (dotAddresses m ram p j) []))
       ≡ dotColour g b (dotIn m active b (coloursOf b) (map (byteAt ram) (dotAddresses m ram p j)) j) e
   by-mode false VSYNC = refl
   by-mode false PIXEL = refl
@@ -108,7 +107,7 @@ pub slot-answer :
     (g : Registers) (ram : List ℕ) (c : Scan) (x e k : ℕ) (p : Pointers) (named : List ℕ)
     → byteAt ram (p .ld1) < 256
     → p ≡ pointersAfter (c .block) (x / 16) (c .at)
-    → named ≡ pick (activeAt (c .block) (x / 16)) (dotAddresses (modeOf (c .block)) ram p (x % 16)) []
+    → named ≡ cond (activeAt (c .block) (x / 16)) (dotAddresses (modeOf (c .block)) ram p (x % 16)) []
     → k ≡ sourcedColour g (c .block) (map (byteAt ram) named) (x % 16) e
     → shows (record { colour = k; names = named }) ≡ dotAnswer g ram c x e
 unfolding dotAnswer
@@ -116,7 +115,7 @@ slot-answer g ram c x e k p named l q hn hk =
     let b = c .block in
     let active = activeAt b (x / 16) in
     let inside : x % 16 < 16 = omega arith in
-    let shown = shown-is g ram b p (x % 16) e inside l (map (byteAt ram) (pick active (dotAddresses (modeOf b) ram p (x % 16)) [])) in
+    let shown = shown-is g ram b p (x % 16) e inside l (map (byteAt ram) (cond active (dotAddresses (modeOf b) ram p (x % 16)) [])) in
     rw (hk, hn, shown, by-mode g ram b p (x % 16) e inside l active (modeOf b), q)
 
 module _ (s : State) (ram : List ℕ) (y x e n : ℕ) (given : n ≡ directRefusal s ram y x) where

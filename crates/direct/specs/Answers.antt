@@ -1,8 +1,8 @@
 -- What the functions behind the direct answer say of one dot: it is shown from the bytes at the addresses that it names.
 use Prim.Native.Nat.{ℕ, _/_, _%_}
+use mathlib.Core.Bool.{cond}
 use mathlib.Core.List.{List, [], _∷_}
 use lib.Dec.{eqb}
-use Rattle.lists.specs.Choice.{pick}
 use Rattle.nick.specs.Slots.{Mode, VSYNC, PIXEL, ATTR, CH, UNUSED, LPIXEL, modeNumber, modeOf}
 use Rattle.nick.specs.External.{dotColour, mixedColour}
 use Rattle.nick.specs.Scanline.{activeAt, pointersAfter, dotAt}
@@ -26,11 +26,11 @@ cellFrom LPIXEL b first second = graphicsCell b first
 -- the colour of dot j of a slot, from the bytes that it comes from
 unfoldable pub byteColour : Registers → Block → ℕ → ℕ → ℕ → ℕ → ℕ
 byteColour g b first second j e =
-    mixedColour g b (cellPixel (cellFrom (modeOf b) b first second) (pick (eqb (modeNumber b) 1) (j % 8) (j / 2))) e
+    mixedColour g b (cellPixel (cellFrom (modeOf b) b first second) (cond (eqb (modeNumber b) 1) (j % 8) (j / 2))) e
 
 -- the same from the list of these bytes; with none it is BORDER, blank in VSYNC
 abbrev pub sourcedColour : Registers → Block → List ℕ → ℕ → ℕ → ℕ
-sourcedColour g b [] j e = pick (syncs (modeOf b)) 0 (g .border)
+sourcedColour g b [] j e = cond (syncs (modeOf b)) 0 (g .border)
 sourcedColour g b (first ∷ []) j e = byteColour g b first 0 j e
 sourcedColour g b (first ∷ second ∷ more) j e = byteColour g b first second j e
 

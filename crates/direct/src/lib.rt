@@ -1,6 +1,7 @@
 // The direct answer: one dot's colour and the addresses that it comes from, without painting.
 ghost use mathlib.Core.Path.{_≡_};
 ghost use Prim.Native.Nat.{_/_, _%_, _<_};
+ghost use mathlib.Core.Bool.{cond};
 ghost use lib.ListN.{length};
 ghost use Rattle.nick.specs.Blocks.{begun};
 ghost use Rattle.nick.specs.Scanline.{scanAfter};
@@ -8,7 +9,6 @@ ghost use Rattle.nick.specs.Direct.{addressesOf, answered, direct};
 ghost use Rattle.nick.specs.Refusals.{Formed, badPlace, directRefusal};
 ghost use mathlib.Core.List.{map};
 ghost use lib.Dec.{eqb};
-ghost use Rattle.lists.specs.Choice.{pick};
 ghost use Rattle.nick.specs.Numbers.{byteAt};
 ghost use Rattle.nick.specs.Slots.{modeNumber, modeOf};
 ghost use Rattle.direct.specs.Answers.{cellFrom, byteColour, sourcedColour, dotAnswer};
@@ -35,7 +35,7 @@ fn cell_from(block: Block, first: u8, second: u8) -> Cell
 // Which eighth of its display byte dot `j` of a slot shows: in PIXEL a byte has eight dots, else sixteen.
 fn eighth_of(block: Block, j: usize) -> u8
     requires { ⌜ j < 16 ⌝ }
-    ensures { λ r. ⌜ (r ≡ pick (eqb (modeNumber block) 1) (j % 8) (j / 2)) × (r < 8) ⌝ }
+    ensures { λ r. ⌜ (r ≡ cond (eqb (modeNumber block) 1) (j % 8) (j / 2)) × (r < 8) ⌝ }
 {
     if block.mb / 2 % 8 == 1 {
         (j % 8) as u8

@@ -6,7 +6,7 @@ use Prim.Native.Nat.{ℕ, _+_, _*_, _≤_}
 use native.Mathlib.Omega.{arith}
 use lib.ListN.{length, take, drop}
 use lib.Seq.{take-length}
-use Rattle.lists.specs.Choice.{number}
+use Rattle.lists.specs.Number.{number}
 use Rattle.lists.proofs.Laws.{front-all, tab-places}
 use Rattle.nick.specs.Numbers.{isSet, byteAt}
 use Rattle.nick.specs.Blocks.{decoded}

@@ -2,7 +2,7 @@
 use Prim.Native.Nat.{ℕ, _+_, _*_, _/_, _%_}
 use mathlib.Core.List.{List, [], _∷_}
 use lib.ListN.{take, drop}
-use Rattle.lists.specs.Choice.{number}
+use Rattle.lists.specs.Number.{number}
 use Rattle.nick.specs.Numbers.{isSet, byteAt}
 use Rattle.nick.specs.Blocks.{decoded}
 use Rattle.nick.specs.declared.Scan.{Scan}

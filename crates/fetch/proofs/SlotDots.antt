@@ -1,6 +1,6 @@
 -- What a slot fetched shows as the rules say, in every mode.
 use mathlib.Core.Path.{_≡_, refl, sym, ap, _∙_}
-use mathlib.Core.Bool.{Bool, true, false}
+use mathlib.Core.Bool.{Bool, true, false, cond}
 use mathlib.Core.List.{List, [], _∷_, map}
 use Prim.Native.Nat.{ℕ, _-_, _/_, _%_, _<_, _≤_}
 use native.Mathlib.Decide.{decLt}
@@ -8,7 +8,6 @@ use native.Mathlib.Omega.{arith}
 use borrow.Author.Tests.{lt-ltb, le-ltb}
 use lib.Dec.{eqb, ltb}
 use lib.ListN.{length, getD}
-use Rattle.lists.specs.Choice.{pick}
 use Rattle.nick.specs.Numbers.{up, byteAt}
 use Rattle.nick.specs.Slots.{Mode, VSYNC, PIXEL, ATTR, CH, UNUSED, LPIXEL, fontAddress, slotFetches, slotPointers, dotAddresses}
 use Rattle.nick.specs.Colour.{two, pixelsIn, sharing, coloursOf, graphicsPixel, pixelOf, characterAdded, attributePixel, dotIn}
@@ -29,7 +28,7 @@ slot-below f j =
     chosen (f .halves) (ltb j 8) (cellPixel (f .first) j) (cellPixel (f .second) (j - 8)) (cellPixel (f .first) (j / 2))
     (cell-below (f .first) j) (cell-below (f .second) (j - 8)) (cell-below (f .first) (j / 2))
   where
-    chosen : (t u : Bool) (x y z : Pixel) → paletteNumber x < 16 → paletteNumber y < 16 → paletteNumber z < 16 → paletteNumber (pick t (pick u x y) z) < 16
+    chosen : (t u : Bool) (x y z : Pixel) → paletteNumber x < 16 → paletteNumber y < 16 → paletteNumber z < 16 → paletteNumber (cond t (cond u x y) z) < 16
     chosen true true x y z hx hy hz = hx
     chosen true false x y z hx hy hz = hy
     chosen false u x y z hx hy hz = hz
@@ -50,7 +49,7 @@ module _ (g : Registers) (ram : List ℕ) (b : Block) (p : Pointers) where
 
   -- a dot of a slot in a video mode
   pub mode-dot : (active : Bool) (m : Mode) (j e : ℕ) → j < 16 → byteAt ram (p .ld1) < 256
-      → pick (eqb (fetchedAt active m ram b p .count) 0) (pick (syncs m) 0 (g .border)) (mixedColour g b (slotPixel (fetchedAt active m ram b p) j) e)
+      → cond (eqb (fetchedAt active m ram b p .count) 0) (cond (syncs m) 0 (g .border)) (mixedColour g b (slotPixel (fetchedAt active m ram b p) j) e)
       ≡ dotColour g b (dotIn m active b (coloursOf b) (map (byteAt ram) (dotAddresses m ram p j)) j) e
   mode-dot false VSYNC j e h l = refl
   mode-dot false PIXEL j e h l = refl
@@ -78,7 +77,7 @@ module _ (g : Registers) (ram : List ℕ) (b : Block) (p : Pointers) where
       ap (λ (q : Pixel). mixedColour g b q e) (graphics-pixel b byte (j / 2) ∙ ap (graphicsPixel cs b byte) (sym (sharing-halves cs j)))
 
   -- the pointers after a slot, and how many bytes it fetches, at most two
-  pub moved : (active : Bool) (m : Mode) → fetchedAt active m ram b p .at ≡ pick active (slotPointers m p) p
+  pub moved : (active : Bool) (m : Mode) → fetchedAt active m ram b p .at ≡ cond active (slotPointers m p) p
   moved false m = refl
   moved true VSYNC = refl
   moved true PIXEL = refl
@@ -87,7 +86,7 @@ module _ (g : Registers) (ram : List ℕ) (b : Block) (p : Pointers) where
   moved true UNUSED = refl
   moved true LPIXEL = refl
 
-  pub counted : (active : Bool) (m : Mode) → fetchedAt active m ram b p .count ≡ length (pick active (slotFetches m ram p) [])
+  pub counted : (active : Bool) (m : Mode) → fetchedAt active m ram b p .count ≡ length (cond active (slotFetches m ram p) [])
   counted false m = refl
   counted true VSYNC = refl
   counted true PIXEL = refl

@@ -1,10 +1,9 @@
 -- What a slot fetches, as the cells that it shows. Nothing here is a rule of the chip: crates/fetch/proofs/SlotDots.antt says that
 -- the dots of these cells are the rules'.
 use Prim.Native.Nat.{ℕ, _-_, _/_}
-use mathlib.Core.Bool.{Bool, true, false}
+use mathlib.Core.Bool.{Bool, true, false, cond}
 use mathlib.Core.List.{List}
 use lib.Dec.{ltb}
-use Rattle.lists.specs.Choice.{pick}
 use Rattle.nick.specs.Numbers.{up, byteAt}
 use Rattle.nick.specs.Slots.{Mode, VSYNC, PIXEL, ATTR, CH, UNUSED, LPIXEL, fontAddress, slotPointers}
 use Rattle.nick.specs.declared.Pointers.{Pointers}
@@ -43,9 +42,9 @@ fetchedIn LPIXEL ram b p = oneCell (graphicsCell b (byteAt ram (p .ld1))) (slotP
 
 -- what a slot fetches, active or not
 abbrev pub fetchedAt : Bool → Mode → List ℕ → Block → Pointers → Fetched
-fetchedAt active m ram b p = pick active (fetchedIn m ram b p) (noFetch p)
+fetchedAt active m ram b p = cond active (fetchedIn m ram b p) (noFetch p)
 
 -- the pixel that dot j of a slot shows
 abbrev pub slotPixel : Fetched → ℕ → Pixel
 slotPixel f j =
-    pick (f .halves) (pick (ltb j 8) (cellPixel (f .first) j) (cellPixel (f .second) (j - 8))) (cellPixel (f .first) (j / 2))
+    cond (f .halves) (cond (ltb j 8) (cellPixel (f .first) j) (cellPixel (f .second) (j - 8))) (cellPixel (f .first) (j / 2))

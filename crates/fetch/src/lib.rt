@@ -3,11 +3,11 @@ mod font;
 
 ghost use mathlib.Core.Path.{_≡_};
 ghost use Prim.Native.Nat.{_<_, _≤_};
+ghost use mathlib.Core.Bool.{cond};
 ghost use lib.ListN.{length};
 ghost use mathlib.Core.List.{[]};
 ghost use Rattle.nick.specs.Slots.{PIXEL, ATTR, CH, LPIXEL, modeOf, dotAddresses};
 ghost use Rattle.nick.specs.Direct.{addressesOf};
-ghost use Rattle.lists.specs.Choice.{pick};
 ghost use Rattle.nick.specs.Scanline.{activeAt};
 ghost use Rattle.nick.specs.Sync.{syncs};
 ghost use Rattle.fetch.specs.Fetches.{oneCell, noFetch, fetchedIn, fetchedAt, slotPixel};
@@ -153,7 +153,7 @@ pub fn fetch_slot(ram: &[u8], block: Block, n: usize, at: Pointers) -> Fetched
 
 // The colour of a dot for which nothing is fetched: BORDER, but blank in VSYNC.
 pub fn unfetched(registers: Registers, block: Block) -> u8
-    ensures { λ r. ⌜ r ≡ pick (syncs (modeOf block)) 0 (registers .border) ⌝ }
+    ensures { λ r. ⌜ r ≡ cond (syncs (modeOf block)) 0 (registers .border) ⌝ }
 {
     if block.mb / 2 % 8 == 0 {
         0
@@ -205,7 +205,7 @@ fn active_sources(ram: &[u8], block: Block, at: Pointers, j: usize) -> Sources
 // slot, and needs none.
 pub fn sources_at(ram: &[u8], block: Block, n: usize, at: Pointers, j: usize) -> Sources
     requires { ⌜ (length (now ram) ≡ 65536) × (n < 46) × (j < 16) ⌝ }
-    ensures { λ r. ⌜ addressesOf r ≡ pick (activeAt block n) (dotAddresses (modeOf block) (now (ram .entry)) at j) [] ⌝ }
+    ensures { λ r. ⌜ addressesOf r ≡ cond (activeAt block n) (dotAddresses (modeOf block) (now (ram .entry)) at j) [] ⌝ }
 {
     let place = n as u16;
     if blocks::is_active(block, place) {

@@ -1,6 +1,6 @@
 -- Laws on the number that digits spell: a byte that is none spoils every longer text, and the bound may be taken early.
 use mathlib.Core.Path.{_≡_}
-use mathlib.Core.Bool.{true, false}
+use mathlib.Core.Bool.{true, false, and-false, or-true}
 use mathlib.Core.List.{List}
 use Prim.Native.Nat.{ℕ, zero, suc, _+_, _-_, _*_, _≤_, _<_, min}
 use native.Mathlib.Nat.{add-zero, add-suc}
@@ -9,7 +9,6 @@ use native.Mathlib.Omega.{arith}
 use lib.Dec.{eqb}
 use lib.ListN.{length, getD}
 use borrow.Author.Tests.{lt-ltb, le-ltb, ne-eqb}
-use Rattle.lists.proofs.Tests.{and-false, or-true}
 use Rattle.files.specs.Numbers.{digit, digits, value, numberOf}
 use Rattle.files.specs.declared.argument.Number.the-variants.{Value, Missing}
 

@@ -1,16 +1,16 @@
 -- Register writes in a row, as pairs of bytes: a port and a value.
 use Prim.Native.Nat.{ℕ, zero, suc, _+_, _*_, _/_, min}
+use mathlib.Core.Bool.{cond}
 use mathlib.Core.List.{List}
 use lib.Dec.{eqb}
 use lib.ListN.{length, getD}
-use Rattle.lists.specs.Choice.{pick}
 use Rattle.nick.specs.Registers.{freshState, writeRefusal, written}
 use Rattle.nick.specs.declared.State.{State}
 use Rattle.nick.specs.declared.Written.{Written}
 
 -- "Where several apply, the smallest number is given."
 unfoldable pub given : ℕ → ℕ → ℕ
-given a b = pick (eqb a 0) b (pick (eqb b 0) a (min a b))
+given a b = cond (eqb a 0) b (cond (eqb b 0) a (min a b))
 
 -- one write more
 unfoldable pub writtenNext : Written → ℕ → ℕ → Written
@@ -31,4 +31,4 @@ writtenBy bytes = writtenAll bytes (length bytes / 2)
 -- what a program makes of its writes: where one is refused, what is told of its number; else what is done from the state that
 -- they left
 unfoldable pub afterWrites : {A : Type 0} → List ℕ → (ℕ → A) → (State → A) → A
-afterWrites bytes told done = pick (eqb (writtenBy bytes .refusal) 0) (done (writtenBy bytes .state)) (told (writtenBy bytes .refusal))
+afterWrites bytes told done = cond (eqb (writtenBy bytes .refusal) 0) (done (writtenBy bytes .state)) (told (writtenBy bytes .refusal))

@@ -1,8 +1,8 @@
 // RAM and register writes, from the files that a program's first two arguments name.
 ghost use mathlib.Core.Path.{_≡_};
 ghost use Prim.Native.Nat.{_≤_};
+ghost use mathlib.Core.Bool.{cond};
 ghost use lib.ListN.{length};
-ghost use Rattle.lists.specs.Choice.{pick};
 use crate::argument::read_argument;
 
 // The arguments that every program begins with.
@@ -19,7 +19,7 @@ pub struct Inputs {
 
 // The first argument that could not be read, 0 for none.
 fn first_unread(ram: bool, writes: bool) -> usize
-    ensures { λ r. ⌜ r ≡ pick ram (pick writes 0 2) 1 ⌝ }
+    ensures { λ r. ⌜ r ≡ cond ram (cond writes 0 2) 1 ⌝ }
 {
     if ram {
         return if writes { 0 } else { WRITES };

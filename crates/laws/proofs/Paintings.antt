@@ -1,13 +1,12 @@
 -- What a painting leaves, accepted or refused.
 use mathlib.Core.Path.{_≡_, refl, sym}
-use mathlib.Core.Bool.{Bool, true, false}
+use mathlib.Core.Bool.{Bool, true, false, cond}
 use mathlib.Core.List.{List}
 use Prim.Native.Nat.{ℕ}
 use native.Mathlib.Decide.{ℕ-discrete}
 use lib.Dec.{eqb}
 use lib.ListN.{length}
 use borrow.Author.Tests.{eqb-true, ne-eqb}
-use Rattle.lists.specs.Choice.{pick}
 use Rattle.nick.specs.Record.{stateAfter}
 use Rattle.nick.specs.Refusals.{Formed, paintingRefusal}
 use Rattle.nick.specs.Painting.{Painting, frameDots, painted, refusedPainting, paint}
@@ -17,7 +16,7 @@ use Rattle.nick.proofs.Refusals.{accepted}
 -- what p, a painting of h lines from s, leaves: the state after the lines that it paints, none where it is refused; where it is
 -- accepted, their dots, the state being well-formed and RAM whole
 pub record Leaves (s : State) (ram : List ℕ) (h : ℕ) (external : List ℕ) (p : Painting) : Type 0 where
-  pub state : p .state ≡ stateAfter ram (pick (eqb (p .refusal) 0) h 0) s
+  pub state : p .state ≡ stateAfter ram (cond (eqb (p .refusal) 0) h 0) s
   pub dots : p .refusal ≡ 0 → p .dots ≡ frameDots ram external h s
   pub formed : p .refusal ≡ 0 → Formed (s .scan)
   pub full : p .refusal ≡ 0 → length ram ≡ 65536
@@ -34,7 +33,7 @@ module _ (s : State) (ram : List ℕ) (h : ℕ) (dots records external : List �
       go :
           (n : ℕ) (t : Bool)
           → eqb n 0 ≡ t
-          → pick t (painted s ram h external) (refusedPainting n s dots records) .refusal ≡ n
+          → cond t (painted s ram h external) (refusedPainting n s dots records) .refusal ≡ n
       go n true e = sym (eqb-true n 0 e)
       go n false e = refl
 

@@ -1,7 +1,7 @@
 -- Two RAMs that read alike at some addresses begin, load, fetch and show alike. SC and MB of the blocks on the way settle which
 -- blocks are loaded and when; so after the last load both RAMs have the same scan, and a dot comes from the bytes that it names.
 use mathlib.Core.Path.{_≡_, refl, sym, ap, _∙_}
-use mathlib.Core.Bool.{Bool, true, false}
+use mathlib.Core.Bool.{Bool, true, false, cond}
 use mathlib.Core.List.{List, [], _∷_, _++_, map, append-nil}
 use Prim.Native.Nat.{ℕ, zero, suc, _+_, _*_, _/_, _%_, _<_}
 use native.Mathlib.Nat.{add-zero, not-suc-le-zero}
@@ -9,7 +9,6 @@ use native.Mathlib.Decide.{decLt}
 use native.Mathlib.Omega.{arith}
 use lib.ListN.{length, getD, take, drop, length-take, length-drop, List·getD-eq-default}
 use lib.Seq.{getD-take, getD-drop, ext-getD}
-use Rattle.lists.specs.Choice.{pick}
 use Rattle.lists.specs.Tab.{tab}
 use Rattle.nick.specs.Numbers.{byteAt}
 use Rattle.nick.specs.Blocks.{loads, loadedNumber, decoded, blockAt, blockAddresses, loaded, continued, begun}
@@ -160,7 +159,7 @@ module _ (ram other : List ℕ) where
       where
         go :
             (t : Bool) → loads c ≡ t
-            → Same (scAndMb (pick t (loadedNumber g c ∷ []) []))
+            → Same (scAndMb (cond t (loadedNumber g c ∷ []) []))
             → LoadAlike (begun g ram c) (begun g other d)
         go true e h =
             let n = loadedNumber g c in
@@ -211,7 +210,7 @@ module _ (ram other : List ℕ) where
         where
           go :
               (t : Bool) → loads (here n) ≡ t
-              → Same (blockBytesUsed (way n ++ pick t (loadedNumber g (here n) ∷ []) []))
+              → Same (blockBytesUsed (way n ++ cond t (loadedNumber g (here n) ∷ []) []))
               → begun g other (there n) ≡ begun g ram (here n)
           go true e h =
               let k = loadedNumber g (here n) in
@@ -246,14 +245,14 @@ module _ (ram other : List ℕ) where
 
   pub same-named :
       (active : Bool) (m : Mode) (p : Pointers) (j : ℕ)
-      → Same (pick active (dotAddresses m ram p j) [])
-      → pick active (dotAddresses m other p j) [] ≡ pick active (dotAddresses m ram p j) []
+      → Same (cond active (dotAddresses m ram p j) [])
+      → cond active (dotAddresses m other p j) [] ≡ cond active (dotAddresses m ram p j) []
   same-named true m p j e = same-addresses m p j e
   same-named false m p j e = refl
 
   pub same-dot :
       (active : Bool) (m : Mode) (b : Block) (cs : Colours) (p : Pointers) (j : ℕ)
-      → Same (pick active (dotAddresses m ram p j) [])
+      → Same (cond active (dotAddresses m ram p j) [])
       → dotIn m active b cs (map (byteAt other) (dotAddresses m other p j)) j
       ≡ dotIn m active b cs (map (byteAt ram) (dotAddresses m ram p j)) j
   same-dot true m b cs p j e = rw (same-addresses m p j e, e)

@@ -6,7 +6,7 @@ use native.Mathlib.Nat.{div-one}
 use native.Mathlib.Omega.{arith}
 use lib.Dec.{eqb}
 use lib.ListN.{length, getD, take, drop, length-append}
-use Rattle.lists.specs.Choice.{number}
+use Rattle.lists.specs.Number.{number}
 use Rattle.lists.proofs.Tests.{bit-number}
 use Rattle.lists.proofs.Laws.{tab-places}
 use Rattle.nick.specs.Registers.{baseNumber}

@@ -1,11 +1,10 @@
 -- Laws on the number of blocks that are listed: how many are left after k blocks without RELOAD.
 use mathlib.Core.Path.{_≡_}
-use mathlib.Core.Bool.{Bool, true, false}
+use mathlib.Core.Bool.{Bool, true, false, cond}
 use mathlib.Core.List.{List}
 use Prim.Native.Nat.{ℕ, zero, suc, _+_, _-_, _%_, _<_, _≤_}
 use native.Mathlib.Nat.{add-zero, sub-zero, mod-eq-of-lt, mod-add-mod, add-assoc}
 use native.Mathlib.Omega.{arith}
-use Rattle.lists.specs.Choice.{pick}
 use Rattle.nick.specs.Registers.{baseNumber}
 use Rattle.nick.specs.Blocks.{blockAt, reload}
 use Rattle.nick.specs.Listing.{blocksFrom, blocksListed}
@@ -49,7 +48,7 @@ pub blocks-limit : (limit : ℕ) (ram : List ℕ) (n : ℕ) → blocksFrom limit
 blocks-limit zero ram n = omega arith
 blocks-limit (suc limit) ram n = go (blocks-limit limit ram ((n + 1) % 4096)) (reload (blockAt ram n))
   where
-    go : {more : ℕ} → more ≤ limit → (b : Bool) → pick b 1 (suc more) ≤ suc limit
+    go : {more : ℕ} → more ≤ limit → (b : Bool) → cond b 1 (suc more) ≤ suc limit
     go h true = omega arith
     go h false = omega arith
 

@@ -1,19 +1,11 @@
 -- General laws on tests: joined tests, tests as numbers, and choices between numbers.
 use mathlib.Core.Path.{_≡_, refl}
-use mathlib.Core.Bool.{Bool, true, false, _&&_, _||_}
+use mathlib.Core.Bool.{Bool, true, false, cond, _||_}
 use Prim.Native.Nat.{ℕ, zero, suc, _<_, _≤_}
 use native.Mathlib.Nat.{not-suc-le-zero, le-of-suc-le-suc}
 use native.Mathlib.Omega.{arith}
 use lib.Dec.{eqb}
-use Rattle.lists.specs.Choice.{pick, number}
-
-pub and-false : (t : Bool) → t && false ≡ false
-and-false true = refl
-and-false false = refl
-
-pub or-true : (t : Bool) → t || true ≡ true
-or-true true = refl
-or-true false = refl
+use Rattle.lists.specs.Number.{number}
 
 -- neither of two tests holds
 pub or-first : (a b : Bool) → a || b ≡ false → a ≡ false
@@ -36,15 +28,15 @@ bit-number (suc zero) h = refl
 bit-number (suc (suc n)) h = absurd (not-suc-le-zero (le-of-suc-le-suc (le-of-suc-le-suc h)))
 
 -- a choice of numbers that gives 0: the test failed, and the rest is 0
-pub not-picked : (t : Bool) (n r : ℕ) → pick t (suc n) r ≡ 0 → t ≡ false
-not-picked true n r e = absurd (omega arith)
-not-picked false n r e = refl
+pub not-chosen : (t : Bool) (n r : ℕ) → cond t (suc n) r ≡ 0 → t ≡ false
+not-chosen true n r e = absurd (omega arith)
+not-chosen false n r e = refl
 
-pub rest-zero : (t : Bool) (n r : ℕ) → pick t (suc n) r ≡ 0 → r ≡ 0
+pub rest-zero : (t : Bool) (n r : ℕ) → cond t (suc n) r ≡ 0 → r ≡ 0
 rest-zero true n r e = absurd (omega arith)
 rest-zero false n r e = e
 
 -- either of two numbers below a bound
-pub pick-below : (t : Bool) (a b n : ℕ) → a < n → b < n → pick t a b < n
-pick-below true a b n ha hb = ha
-pick-below false a b n ha hb = hb
+pub cond-below : (t : Bool) (a b n : ℕ) → a < n → b < n → cond t a b < n
+cond-below true a b n ha hb = ha
+cond-below false a b n ha hb = hb

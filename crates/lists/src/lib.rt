@@ -2,7 +2,7 @@
 ghost use mathlib.Core.Path.{_≡_};
 ghost use Prim.Native.Nat.{_+_, _*_, _/_, _%_, _≤_, min};
 ghost use lib.ListN.{length, replicate};
-ghost use Rattle.lists.specs.Choice.{number};
+ghost use Rattle.lists.specs.Number.{number};
 
 // Writes `value` over the whole slice.
 pub fn fill(out: &mut [u8], value: u8)

@@ -6,7 +6,7 @@ use Prim.Native.Nat.{ℕ, _*_, _≤_}
 use lib.Dec.{eqb, ltb}
 use lib.ListN.{length}
 use borrow.Author.Tests.{ltb-false, eqb-true, not-false}
-use Rattle.lists.proofs.Tests.{or-first, or-rest, not-picked, rest-zero}
+use Rattle.lists.proofs.Tests.{or-first, or-rest, not-chosen, rest-zero}
 use Rattle.nick.specs.Sizes.{recordBytes}
 use Rattle.nick.specs.Refusals.{illFormed, Formed, notFull, badHeight, badDots, badRecords, badPlace, paintingRefusal, Accepted, directRefusal}
 use Rattle.nick.specs.declared.State.{State}
@@ -35,10 +35,10 @@ pub answerable : (s : State) (ram : List ℕ) (y x : ℕ) → directRefusal s ra
 unfolding directRefusal
 answerable s ram y x e =
     let past-state = rest-zero (illFormed (s .scan)) 2 _ e in
-    let place = not-picked (badPlace y x) 8 0 (rest-zero (notFull ram) 3 _ past-state) in
+    let place = not-chosen (badPlace y x) 8 0 (rest-zero (notFull ram) 3 _ past-state) in
     record {
-      formed = formed (s .scan) (not-picked (illFormed (s .scan)) 2 _ e);
-      full = full ram (not-picked (notFull ram) 3 _ past-state);
+      formed = formed (s .scan) (not-chosen (illFormed (s .scan)) 2 _ e);
+      full = full ram (not-chosen (notFull ram) 3 _ past-state);
       line = line-most y x place;
       dot = dot-most y x place;
     }
@@ -54,9 +54,9 @@ accepted s ram h dots records external e =
     let past-height = rest-zero (badHeight h) 4 _ past-ram in
     let past-dots = rest-zero (badDots h dots) 5 _ past-height in
     record {
-      formed = formed (s .scan) (not-picked (illFormed (s .scan)) 2 _ e);
-      full = full ram (not-picked (notFull ram) 3 _ past-state);
-      height = height-most h (not-picked (badHeight h) 4 _ past-ram);
-      places = eqb-true (length dots) (736 * h) (not-false _ (not-picked (badDots h dots) 5 _ past-height));
-      bytes = eqb-true (length records) (recordBytes * h) (not-false _ (not-picked (badRecords h records) 6 _ past-dots));
+      formed = formed (s .scan) (not-chosen (illFormed (s .scan)) 2 _ e);
+      full = full ram (not-chosen (notFull ram) 3 _ past-state);
+      height = height-most h (not-chosen (badHeight h) 4 _ past-ram);
+      places = eqb-true (length dots) (736 * h) (not-false _ (not-chosen (badDots h dots) 5 _ past-height));
+      bytes = eqb-true (length records) (recordBytes * h) (not-false _ (not-chosen (badRecords h records) 6 _ past-dots));
     }

@@ -1,7 +1,7 @@
 -- A scanline keeps the scan well-formed: block numbers below 4,096, and 1 to 256 scanlines left as it begins. Of the registers
 -- LPL has to be a byte; of LPH only LPH mod 16 counts.
 use mathlib.Core.Path.{_≡_, refl, _∙_}
-use mathlib.Core.Bool.{Bool, true, false, true≢false, not, _||_}
+use mathlib.Core.Bool.{Bool, true, false, true≢false, not, cond, _||_}
 use mathlib.Core.List.{List}
 use Prim.Native.Nat.{ℕ, zero, suc, _*_, _<_}
 use native.Mathlib.Nat.{add-zero}
@@ -10,8 +10,7 @@ use borrow.Author.Tests.{eqb-false, ltb-false, le-ltb}
 use lib.Dec.{eqb, ltb}
 use lib.ListN.{drop}
 use lib.Seq.{getD-take, getD-drop}
-use Rattle.lists.specs.Choice.{pick}
-use Rattle.lists.proofs.Tests.{pick-below, or-first, or-rest}
+use Rattle.lists.proofs.Tests.{cond-below, or-first, or-rest}
 use Rattle.nick.specs.Numbers.{isSet, byteAt}
 use Rattle.nick.specs.Registers.{baseNumber}
 use Rattle.nick.specs.Blocks.{reload, loads, loadedNumber, decoded, blockAt, loaded, continued, begun}
@@ -37,9 +36,9 @@ base-below g h = omega arith
 pub number-below : (g : Registers) (c : Scan) → g .lpl < 256 → c .number < 4096 → loadedNumber g c < 4096
 unfolding loadedNumber
 number-below g c h l =
-    pick-below (c .pending) _ _ 4096 (base-below g h)
-    (pick-below (reload (c .block)) _ _ 4096 (base-below g h)
-    (pick-below (not (isSet 6 (g .lph))) _ _ 4096 l (omega arith)))
+    cond-below (c .pending) _ _ 4096 (base-below g h)
+    (cond-below (reload (c .block)) _ _ 4096 (base-below g h)
+    (cond-below (not (isSet 6 (g .lph))) _ _ 4096 l (omega arith)))
 
 -- the first byte of a block is a byte of RAM
 pub block-sc : (ram : List ℕ) (n : ℕ) → blockAt ram n .sc ≡ byteAt ram (16 * n)
@@ -58,7 +57,7 @@ module _ (g : Registers) (ram : List ℕ) (c : Scan) where
       none-pending false n e = let h = eqb-false n 0 e in omega arith
 
       begins : Bool → Scan
-      begins t = pick t (loaded g (loadedNumber g c) (blockAt ram (loadedNumber g c))) (continued c)
+      begins t = cond t (loaded g (loadedNumber g c) (blockAt ram (loadedNumber g c))) (continued c)
 
       go : (t : Bool) → loads c ≡ t → begins t .block .sc < 256 → 0 < begins t .left
       go true e sc = omega arith
@@ -69,7 +68,7 @@ module _ (g : Registers) (ram : List ℕ) (c : Scan) where
     unfolding begun loaded continued
     begun-formed = go (loads c)
       where
-        go : (t : Bool) → Formed (pick t (loaded g (loadedNumber g c) (blockAt ram (loadedNumber g c))) (continued c))
+        go : (t : Bool) → Formed (cond t (loaded g (loadedNumber g c) (blockAt ram (loadedNumber g c))) (continued c))
         go true = record { left = omega arith; number = number-below g c low (f .number) }
         go false = record { left = f .left; number = f .number }
 

@@ -1,10 +1,9 @@
 -- Document 01, "One scanline", first two paragraphs: which block is loaded and when, and how a scanline begins.
 use Prim.Native.Nat.{ℕ, _+_, _-_, _*_, _%_}
-use mathlib.Core.Bool.{Bool, not, _||_}
+use mathlib.Core.Bool.{Bool, not, cond, _||_}
 use mathlib.Core.List.{List, [], _∷_}
 use lib.Dec.{eqb}
 use lib.ListN.{take, drop}
-use Rattle.lists.specs.Choice.{pick}
 use Rattle.lists.specs.Tab.{tab}
 use Rattle.nick.specs.Numbers.{isSet, byteAt}
 use Rattle.nick.specs.Registers.{baseNumber}
@@ -30,9 +29,9 @@ loads c = c .pending || eqb (c .left) 0
 -- RELOAD (MB bit 0); the same number, if LPH bit 6 is clear; else one more, 4,095 going to 0."
 unfoldable pub loadedNumber : Registers → Scan → ℕ
 loadedNumber g c =
-    pick (c .pending) (baseNumber g)
-    (pick (reload (c .block)) (baseNumber g)
-    (pick (not (isSet 6 (g .lph))) (c .number)
+    cond (c .pending) (baseNumber g)
+    (cond (reload (c .block)) (baseNumber g)
+    (cond (not (isSet 6 (g .lph))) (c .number)
     ((c .number + 1) % 4096)))
 
 -- "SC, MB, LM, RM, LD1 low, LD1 high, LD2 low, LD2 high, COL0 to COL7"
@@ -73,10 +72,10 @@ continued c = record {
   pending = c .pending;
   block = c .block;
   number = c .number;
-  at = record { ld1 = pick (vres (c .block)) (c .at .ld1) (c .block .start .ld1); ld2 = c .at .ld2 };
+  at = record { ld1 = cond (vres (c .block)) (c .at .ld1) (c .block .start .ld1); ld2 = c .at .ld2 };
   left = c .left;
 }
 
 -- a scanline's begin: a block is loaded, or the mode line goes on
 unfoldable pub begun : Registers → List ℕ → Scan → Scan
-begun g ram c = pick (loads c) (loaded g (loadedNumber g c) (blockAt ram (loadedNumber g c))) (continued c)
+begun g ram c = cond (loads c) (loaded g (loadedNumber g c) (blockAt ram (loadedNumber g c))) (continued c)

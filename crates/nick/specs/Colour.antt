@@ -1,10 +1,9 @@
 -- Document 01, "From display byte to colour": pixels, palette, alternate colours, ATTR.
 use Prim.Native.Nat.{ℕ, _+_, _-_, _*_, _/_, _%_}
-use mathlib.Core.Bool.{Bool, _&&_}
+use mathlib.Core.Bool.{Bool, cond, _&&_}
 use mathlib.Core.List.{List, [], _∷_}
 use lib.Dec.{eqb, ltb}
 use lib.ListN.{getD}
-use Rattle.lists.specs.Choice.{pick}
 use Rattle.nick.specs.Numbers.{bit, isSet, byteAt}
 use Rattle.nick.specs.Slots.{Mode, VSYNC, PIXEL, ATTR, CH, UNUSED, LPIXEL}
 use Rattle.nick.specs.declared.Registers.{Registers}
@@ -68,10 +67,10 @@ abbrev pub lsbAlternate : Block → ℕ → Bool
 lsbAlternate b byte = isSet 6 (b .lm) && isSet 0 byte
 
 unfoldable pub graphicsAdded : Block → ℕ → ℕ
-graphicsAdded b byte = pick (msbAlternate b byte) 2 0 + pick (lsbAlternate b byte) 4 0
+graphicsAdded b byte = cond (msbAlternate b byte) 2 0 + cond (lsbAlternate b byte) 4 0
 
 unfoldable pub graphicsByte : Block → ℕ → ℕ
-graphicsByte b byte = byte - pick (msbAlternate b byte) 128 0 - pick (lsbAlternate b byte) 1 0
+graphicsByte b byte = byte - cond (msbAlternate b byte) 128 0 - cond (lsbAlternate b byte) 1 0
 
 -- pixel k of a PIXEL or LPIXEL display byte
 abbrev pub graphicsPixel : Colours → Block → ℕ → ℕ → Pixel
@@ -83,11 +82,11 @@ graphicsPixel all b byte k = pixelOf all 0 byte k
 -- "In two-colour character modes only: with RM bit 7 (ALTIND1) a code with bit 7 adds 2; with RM bit 6 (ALTIND0) a code with
 -- bit 6 adds 4."
 unfoldable pub characterAdded : Block → ℕ → ℕ
-characterAdded b code = pick (isSet 7 (b .rm) && isSet 7 code) 2 0 + pick (isSet 6 (b .rm) && isSet 6 code) 4 0
+characterAdded b code = cond (isSet 7 (b .rm) && isSet 7 code) 2 0 + cond (isSet 6 (b .rm) && isSet 6 code) 4 0
 
 -- "ATTR always uses two colours (house): bit 0 takes the attribute's high four bits as index, bit 1 its low four."
 abbrev pub attributePixel : ℕ → ℕ → ℕ → Pixel
-attributePixel attribute byte k = Palette (pick (eqb (twoIndex byte k) 0) (attribute / 16) (attribute % 16))
+attributePixel attribute byte k = Palette (cond (eqb (twoIndex byte k) 0) (attribute / 16) (attribute % 16))
 
 -- what a dot shows before external colour
 pub data Dot : Type 0 where
@@ -100,18 +99,18 @@ pub data Dot : Type 0 where
 abbrev pub dotIn : Mode → Bool → Block → Colours → List ℕ → ℕ → Dot
 dotIn VSYNC active b cs bytes j = blank
 dotIn PIXEL active b cs bytes j =
-    pick active (shown (graphicsPixel cs b (byteAt bytes 0) (sharing (pixelsIn cs) 8 (j % 8)))) border
+    cond active (shown (graphicsPixel cs b (byteAt bytes 0) (sharing (pixelsIn cs) 8 (j % 8)))) border
 dotIn ATTR active b cs bytes j =
-    pick active (shown (attributePixel (byteAt bytes 0) (byteAt bytes 1) (sharing (pixelsIn two) 16 j))) border
+    cond active (shown (attributePixel (byteAt bytes 0) (byteAt bytes 1) (sharing (pixelsIn two) 16 j))) border
 dotIn (CH width) active b cs bytes j =
-    pick active (shown (pixelOf cs (characterAdded b (byteAt bytes 0)) (byteAt bytes 1) (sharing (pixelsIn cs) 16 j))) border
+    cond active (shown (pixelOf cs (characterAdded b (byteAt bytes 0)) (byteAt bytes 1) (sharing (pixelsIn cs) 16 j))) border
 dotIn UNUSED active b cs bytes j = border
 dotIn LPIXEL active b cs bytes j =
-    pick active (shown (graphicsPixel cs b (byteAt bytes 0) (sharing (pixelsIn cs) 16 j))) border
+    cond active (shown (graphicsPixel cs b (byteAt bytes 0) (sharing (pixelsIn cs) 16 j))) border
 
 -- "Palette 0 to 7 is COL0 to COL7; palette n from 8 is 8 times (FIXBIAS mod 32) plus n minus 8."
 unfoldable pub paletteColour : Registers → Block → ℕ → ℕ
-paletteColour g b n = pick (ltb n 8) (getD (b .col) n 0) (8 * (g .fixbias % 32) + n - 8)
+paletteColour g b n = cond (ltb n 8) (getD (b .col) n 0) (8 * (g .fixbias % 32) + n - 8)
 
 abbrev pub pixelColour : Registers → Block → Pixel → ℕ
 pixelColour g b (Palette n) = paletteColour g b n

@@ -1,9 +1,9 @@
 -- Document 01, "The direct answer": one dot's colour, the addresses that it names, and what it depends on.
 use Prim.Native.Nat.{ℕ, zero, suc, _+_, _*_, _/_, _%_}
+use mathlib.Core.Bool.{cond}
 use mathlib.Core.List.{List, [], _∷_, _++_}
 use lib.Dec.{eqb}
 use lib.ListN.{getD}
-use Rattle.lists.specs.Choice.{pick}
 use Rattle.nick.specs.Blocks.{loads, loadedNumber, blockAddresses, begun}
 use Rattle.nick.specs.Slots.{modeOf, dotAddresses}
 use Rattle.nick.specs.Scanline.{activeAt, pointersAfter, lineDots, scanAfter}
@@ -46,7 +46,7 @@ directColour s ram y x e =
 -- the addresses that dot x of a scanline names, the scanline having begun as c says; "border dots, VSYNC and mode 6, none"
 abbrev pub namedIn : List ℕ → Scan → ℕ → List ℕ
 namedIn ram c x =
-    pick (activeAt (c .block) (x / 16))
+    cond (activeAt (c .block) (x / 16))
     (dotAddresses (modeOf (c .block)) ram (pointersAfter (c .block) (x / 16) (c .at)) (x % 16))
     []
 
@@ -62,11 +62,11 @@ directShown s ram y x e = record { colour = directColour s ram y x e; names = di
 unfoldable pub direct : State → List ℕ → ℕ → ℕ → ℕ → Answered
 direct s ram y x e =
     let n = directRefusal s ram y x in
-    pick (eqb n 0) (shows (directShown s ram y x e)) (refused n)
+    cond (eqb n 0) (shows (directShown s ram y x e)) (refused n)
 
 -- the number of the block that the next scanline loads, if it loads one
 abbrev pub loadOf : Registers → Scan → List ℕ
-loadOf g c = pick (loads c) (loadedNumber g c ∷ []) []
+loadOf g c = cond (loads c) (loadedNumber g c ∷ []) []
 
 -- "Blocks loaded in these y + 1 scanlines are loaded on the way": their numbers, in order, for n scanlines
 abbrev pub loadedOnTheWay : Registers → List ℕ → ℕ → Scan → List ℕ

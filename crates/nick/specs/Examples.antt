@@ -4,7 +4,7 @@ use mathlib.Core.Path.{_≡_, refl}
 use mathlib.Core.Bool.{true, false}
 use mathlib.Core.List.{List, [], _∷_, _++_, map}
 use lib.ListN.{length, getD, replicate}
-use Rattle.lists.specs.Choice.{number}
+use Rattle.lists.specs.Number.{number}
 use Rattle.lists.specs.Tab.{tab}
 use Rattle.nick.specs.Registers.{writtenRegisters, writtenScan, written, freshState, zeroBlock, zeroPointers}
 use Rattle.nick.specs.Blocks.{loaded, loadedNumber, decoded, blockAt, blockAddresses, continued, begun}

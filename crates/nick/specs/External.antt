@@ -1,10 +1,9 @@
 -- Document 01, "From display byte to colour", external colour.
 use Prim.Native.Nat.{ℕ, _/_, _%_}
-use mathlib.Core.Bool.{Bool, true, false, not, _&&_, _||_}
+use mathlib.Core.Bool.{Bool, true, false, not, cond, _&&_, _||_}
 use mathlib.Core.List.{[], _∷_}
 use lib.Dec.{leb, ltb}
 use lib.ListN.{getD}
-use Rattle.lists.specs.Choice.{pick}
 use Rattle.nick.specs.Numbers.{isSet}
 use Rattle.nick.specs.Colour.{Dot, blank, border, shown, paletteColour, pixelColour}
 use Rattle.nick.specs.declared.Registers.{Registers}
@@ -31,7 +30,7 @@ externalWins g p e = isSet 7 e && priorityGives (g .fixbias / 32 % 4) (highIndex
 
 -- "The new colour is palette EC."
 unfoldable pub mixedColour : Registers → Block → Pixel → ℕ → ℕ
-mixedColour g b p e = pick (externalWins g p e) (paletteColour g b (externalIndex e)) (pixelColour g b p)
+mixedColour g b p e = cond (externalWins g p e) (paletteColour g b (externalIndex e)) (pixelColour g b p)
 
 -- a dot's colour: 0 where it is blank, BORDER in the border
 abbrev pub dotColour : Registers → Block → Dot → ℕ → ℕ

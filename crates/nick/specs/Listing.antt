@@ -1,9 +1,10 @@
 -- Document 01, "The listing": the text of the parameter table as a list of bytes, and what the call leaves.
 use Prim.Native.Nat.{ℕ, zero, suc, _+_, _-_, _*_, _/_, _%_}
+use mathlib.Core.Bool.{cond}
 use mathlib.Core.List.{List, [], _∷_, _++_}
 use lib.Dec.{eqb, ltb}
 use lib.ListN.{length, getD, drop}
-use Rattle.lists.specs.Choice.{pick, number}
+use Rattle.lists.specs.Number.{number}
 use Rattle.nick.specs.Registers.{baseNumber}
 use Rattle.nick.specs.Blocks.{blockAt, vint, vres, reload}
 use Rattle.nick.specs.Slots.{modeNumber}
@@ -26,7 +27,7 @@ abbrev pub digitsOf : ℕ → ℕ → List ℕ
 digitsOf zero n = []
 digitsOf (suc fuel) n =
     let front = digitsOf fuel (n / 10) in
-    pick (ltb n 10) ((48 + n) ∷ []) (front ++ ((48 + n % 10) ∷ []))
+    cond (ltb n 10) ((48 + n) ∷ []) (front ++ ((48 + n % 10) ∷ []))
 
 unfoldable pub decimal : ℕ → List ℕ
 decimal n = digitsOf (suc n) n
@@ -84,7 +85,7 @@ abbrev pub blocksFrom : ℕ → List ℕ → ℕ → ℕ
 blocksFrom zero ram n = 0
 blocksFrom (suc limit) ram n =
     let more = blocksFrom limit ram ((n + 1) % 4096) in
-    pick (reload (blockAt ram n)) 1 (suc more)
+    cond (reload (blockAt ram n)) 1 (suc more)
 
 -- "or 4,096 blocks"
 unfoldable pub blocksListed : Registers → List ℕ → ℕ
@@ -123,10 +124,10 @@ listAnswered (Length n) = listLength n
 unfoldable pub listAnswer : Registers → List ℕ → List ℕ → ListAnswered
 listAnswer g ram out =
     let n = listingRefusal ram (listing g ram) out in
-    pick (eqb n 0) (listLength (length (listing g ram))) (listRefused n)
+    cond (eqb n 0) (listLength (length (listing g ram))) (listRefused n)
 
 -- "Bytes after the listing keep their content." "A refused listing keeps its output."
 unfoldable pub listOutput : Registers → List ℕ → List ℕ → List ℕ
 listOutput g ram out =
     let n = listingRefusal ram (listing g ram) out in
-    pick (eqb n 0) (listing g ram ++ drop (length (listing g ram)) out) out
+    cond (eqb n 0) (listing g ram ++ drop (length (listing g ram)) out) out

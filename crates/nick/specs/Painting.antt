@@ -1,9 +1,9 @@
 -- Painting one scanline, and 1 to 1,024 "as that many single ones in order", refused calls as well.
 use Prim.Native.Nat.{ℕ, zero, suc, _+_, _*_}
+use mathlib.Core.Bool.{cond}
 use mathlib.Core.List.{List, [], _++_}
 use lib.Dec.{eqb}
 use lib.ListN.{length, replicate}
-use Rattle.lists.specs.Choice.{pick}
 use Rattle.nick.specs.Numbers.{byteAt}
 use Rattle.nick.specs.Scanline.{lineDots}
 use Rattle.nick.specs.Record.{lineRecord, stateAfter}
@@ -56,7 +56,7 @@ refusedPainting n s dots records = record {
 unfoldable pub paint : State → List ℕ → ℕ → List ℕ → List ℕ → List ℕ → Painting
 paint s ram h dots records external =
     let n = paintingRefusal s ram h dots records external in
-    pick (eqb n 0) (painted s ram h external) (refusedPainting n s dots records)
+    cond (eqb n 0) (painted s ram h external) (refusedPainting n s dots records)
 
 -- painting one scanline
 abbrev pub paintLine : State → List ℕ → List ℕ → List ℕ → List ℕ → Painting

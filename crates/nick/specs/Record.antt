@@ -1,10 +1,10 @@
 -- Document 01, "The line record", and one scanline as a step from state to state.
 use Prim.Native.Nat.{ℕ, zero, suc, _+_, _*_}
-use mathlib.Core.Bool.{Bool, true, false, not, _&&_}
+use mathlib.Core.Bool.{Bool, true, false, not, cond, _&&_}
 use mathlib.Core.List.{List, [], _∷_}
 use lib.Dec.{eqb}
 use lib.ListN.{length}
-use Rattle.lists.specs.Choice.{pick, number}
+use Rattle.lists.specs.Number.{number}
 use Rattle.nick.specs.Blocks.{loads, begun, vint}
 use Rattle.nick.specs.Slots.{Mode, VSYNC, PIXEL, ATTR, CH, UNUSED, LPIXEL, modeOf, modeFetches, activeSlots}
 use Rattle.nick.specs.Scanline.{lineFetches, nextScan}
@@ -34,7 +34,7 @@ flags b wasLow load last =
 
 -- "Byte 3: active slots in modes that fetch, else 0."
 abbrev pub fetchingSlots : Block → ℕ
-fetchingSlots b = pick (modeFetches (modeOf b)) (activeSlots b) 0
+fetchingSlots b = cond (modeFetches (modeOf b)) (activeSlots b) 0
 
 -- the record of the next scanline; "Byte 2: the number of bytes fetched from video RAM in this scanline, 16 for a load included"
 unfoldable pub lineRecord : List ℕ → State → List ℕ

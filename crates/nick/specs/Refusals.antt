@@ -3,11 +3,10 @@
 -- specs/InsideRam has what it said, and why it cannot be met.
 use Prim.Native.Nat.{ℕ, _*_, _<_, _≤_}
 use mathlib.Core.Path.{_≡_}
-use mathlib.Core.Bool.{Bool, not, _||_}
+use mathlib.Core.Bool.{Bool, not, cond, _||_}
 use mathlib.Core.List.{List}
 use lib.Dec.{eqb, ltb}
 use lib.ListN.{length}
-use Rattle.lists.specs.Choice.{pick}
 use Rattle.nick.specs.Sizes.{recordBytes}
 use Rattle.nick.specs.declared.Scan.{Scan}
 use Rattle.nick.specs.declared.State.{State}
@@ -48,12 +47,12 @@ badPlace line dot = ltb 1023 line || ltb 735 dot
 -- "3, 4 .. for painting and the direct answer; 5 to 8 for painting"
 unfoldable pub paintingRefusal : State → List ℕ → ℕ → List ℕ → List ℕ → List ℕ → ℕ
 paintingRefusal s ram h dots records external =
-    pick (illFormed (s .scan)) 3
-    (pick (notFull ram) 4
-    (pick (badHeight h) 5
-    (pick (badDots h dots) 6
-    (pick (badRecords h records) 7
-    (pick (badExternal h external) 8 0)))))
+    cond (illFormed (s .scan)) 3
+    (cond (notFull ram) 4
+    (cond (badHeight h) 5
+    (cond (badDots h dots) 6
+    (cond (badRecords h records) 7
+    (cond (badExternal h external) 8 0)))))
 
 -- what the tests say of a painting that is not refused
 pub record Accepted (s : State) (ram : List ℕ) (h : ℕ) (dots records : List ℕ) : Type 0 where
@@ -66,10 +65,10 @@ pub record Accepted (s : State) (ram : List ℕ) (h : ℕ) (dots records : List 
 -- "3, 4 .. for painting and the direct answer; .. 9 for the direct answer"
 unfoldable pub directRefusal : State → List ℕ → ℕ → ℕ → ℕ
 directRefusal s ram line dot =
-    pick (illFormed (s .scan)) 3
-    (pick (notFull ram) 4
-    (pick (badPlace line dot) 9 0))
+    cond (illFormed (s .scan)) 3
+    (cond (notFull ram) 4
+    (cond (badPlace line dot) 9 0))
 
 -- "4 and 10 for the listing"; 10: "output shorter than the whole listing"
 unfoldable pub listingRefusal : List ℕ → List ℕ → List ℕ → ℕ
-listingRefusal ram text out = pick (notFull ram) 4 (pick (ltb (length out) (length text)) 10 0)
+listingRefusal ram text out = cond (notFull ram) 4 (cond (ltb (length out) (length text)) 10 0)

@@ -1,9 +1,8 @@
 -- Document 01, "Registers": writes of ports 128 to 143, the base block number, and the fresh state.
 use Prim.Native.Nat.{ℕ, _+_, _*_, _%_}
-use mathlib.Core.Bool.{Bool, true, false, not, _||_, _&&_}
+use mathlib.Core.Bool.{Bool, true, false, not, cond, _||_, _&&_}
 use lib.Dec.{eqb, leb, ltb}
 use lib.ListN.{replicate}
-use Rattle.lists.specs.Choice.{pick}
 use Rattle.nick.specs.Numbers.{isSet}
 use Rattle.nick.specs.declared.Registers.{Registers}
 use Rattle.nick.specs.declared.Pointers.{Pointers}
@@ -17,15 +16,15 @@ baseNumber g = g .lph % 16 * 256 + g .lpl
 
 -- refusal 1: "port outside 128 to 143"; refusal 2: "port 132 to 143 (reserved)"; 0 where neither applies
 abbrev pub writeRefusal : ℕ → ℕ
-writeRefusal port = pick (ltb port 128 || ltb 143 port) 1 (pick (leb 132 port) 2 0)
+writeRefusal port = cond (ltb port 128 || ltb 143 port) 1 (cond (leb 132 port) 2 0)
 
 -- "Port 128 FIXBIAS, 129 BORDER, 130 LPL, 131 LPH."
 unfoldable pub writtenRegisters : Registers → ℕ → ℕ → Registers
 writtenRegisters g port value = record {
-  fixbias = pick (eqb port 128) value (g .fixbias);
-  border = pick (eqb port 129) value (g .border);
-  lpl = pick (eqb port 130) value (g .lpl);
-  lph = pick (eqb port 131) value (g .lph);
+  fixbias = cond (eqb port 128) value (g .fixbias);
+  border = cond (eqb port 129) value (g .border);
+  lpl = cond (eqb port 130) value (g .lpl);
+  lph = cond (eqb port 131) value (g .lph);
 }
 
 -- "A write of LPH with bit 7 clear sets a pending forced reload; a write with bit 7 set doesn't take it away."
@@ -44,7 +43,7 @@ writtenScan c port value = record {
 -- "A refused register write returns the state as given."
 unfoldable pub written : State → ℕ → ℕ → State
 written s port value =
-    pick (eqb (writeRefusal port) 0)
+    cond (eqb (writeRefusal port) 0)
     (record {
       registers = writtenRegisters (s .registers) port value;
       scan = writtenScan (s .scan) port value;

@@ -1,8 +1,7 @@
 -- Document 01, "One scanline": the slots in order, the dots, the fetches, and the step to the next scanline.
 use Prim.Native.Nat.{ℕ, zero, suc, _+_, _-_, _*_}
-use mathlib.Core.Bool.{Bool}
+use mathlib.Core.Bool.{Bool, cond}
 use mathlib.Core.List.{List, [], _++_, map}
-use Rattle.lists.specs.Choice.{pick}
 use Rattle.lists.specs.Tab.{tab}
 use Rattle.nick.specs.Numbers.{byteAt}
 use Rattle.nick.specs.Blocks.{loads, loadedNumber, blockAddresses, begun}
@@ -20,7 +19,7 @@ activeAt b n = isActive b (8 + n)
 
 -- the pointers after a slot, active or not
 abbrev pub pastSlot : Bool → Block → Pointers → Pointers
-pastSlot active b p = pick active (slotPointers (modeOf b) p) p
+pastSlot active b p = cond active (slotPointers (modeOf b) p) p
 
 -- the pointers after the first n dot slots
 abbrev pub pointersAfter : Block → ℕ → Pointers → Pointers
@@ -29,7 +28,7 @@ pointersAfter b (suc n) p = pastSlot (activeAt b n) b (pointersAfter b n p)
 
 -- the addresses that a slot fetches, active or not
 abbrev pub slotAddresses : Bool → List ℕ → Block → Pointers → List ℕ
-slotAddresses active ram b p = pick active (slotFetches (modeOf b) ram p) []
+slotAddresses active ram b p = cond active (slotFetches (modeOf b) ram p) []
 
 -- the addresses that the first n dot slots fetch, in order
 abbrev pub slotsFetched : List ℕ → Block → ℕ → Pointers → List ℕ
@@ -63,7 +62,7 @@ unfoldable pub begunFetches : List ℕ → Scan → List ℕ
 begunFetches ram c = slotsFetched ram (c .block) 46 (c .at)
 
 unfoldable pub lineFetches : Registers → List ℕ → Scan → List ℕ
-lineFetches g ram c = pick (loads c) (blockAddresses (loadedNumber g c)) [] ++ begunFetches ram (begun g ram c)
+lineFetches g ram c = cond (loads c) (blockAddresses (loadedNumber g c)) [] ++ begunFetches ram (begun g ram c)
 
 -- a scanline's end: LD2 of a character mode goes up; "Last, scanlines left falls by 1."
 unfoldable pub ended : Scan → Scan

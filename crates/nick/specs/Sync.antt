@@ -1,14 +1,14 @@
 -- Document 01, "The line record", last paragraph: sync.
 use Prim.Native.Nat.{ℕ, zero, suc, _+_, _%_}
-use mathlib.Core.Bool.{Bool, true, false}
+use mathlib.Core.Bool.{Bool, true, false, cond}
 use lib.Dec.{eqb}
-use Rattle.lists.specs.Choice.{pick, number}
+use Rattle.lists.specs.Number.{number}
 use Rattle.nick.specs.Slots.{Mode, VSYNC, PIXEL, ATTR, CH, UNUSED, LPIXEL, modeOf}
 use Rattle.nick.specs.declared.Block.{Block}
 
 -- "In VSYNC, at slot LM mod 64 it goes on, then at slot RM mod 64 it goes off (off wins)"
 abbrev pub syncAt : Block → ℕ → Bool → Bool
-syncAt b slot on = pick (eqb slot (b .rm % 64)) false (pick (eqb slot (b .lm % 64)) true on)
+syncAt b slot on = cond (eqb slot (b .rm % 64)) false (cond (eqb slot (b .lm % 64)) true on)
 
 -- the level after the first n slots
 abbrev pub syncAfter : Block → ℕ → Bool → Bool
@@ -31,8 +31,8 @@ syncs LPIXEL = false
 
 -- "Byte 1: slots of 57 at sync level."
 unfoldable pub lineSyncCount : Block → Bool → ℕ
-lineSyncCount b on = pick (syncs (modeOf b)) (syncCount b 57 on) 0
+lineSyncCount b on = cond (syncs (modeOf b)) (syncCount b 57 on) 0
 
 -- "The level carries over to the next scanline."
 unfoldable pub lineSync : Block → Bool → Bool
-lineSync b on = pick (syncs (modeOf b)) (syncAfter b 57 on) false
+lineSync b on = cond (syncs (modeOf b)) (syncAfter b 57 on) false

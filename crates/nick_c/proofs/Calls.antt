@@ -1,13 +1,12 @@
 -- Each call keeps its promise, by the state's length and by what the call below it answered.
 use mathlib.Core.Path.{_≡_, ap, _∙_}
-use mathlib.Core.Bool.{Bool, true, false}
+use mathlib.Core.Bool.{Bool, true, false, cond}
 use mathlib.Core.List.{List}
 use Prim.Native.Nat.{ℕ, _+_, _*_, _^_, _<_, _≤_}
 use native.Mathlib.Omega.{arith}
 use borrow.Author.Tests.{eq-eqb, ne-eqb}
 use lib.Dec.{eqb}
 use lib.ListN.{length, replicate}
-use Rattle.lists.specs.Choice.{pick}
 use Rattle.nick.specs.Registers.{freshState, writeRefusal, written}
 use Rattle.nick.specs.Numbers.{byteAt}
 use Rattle.nick.specs.Refusals.{listingRefusal}
@@ -92,6 +91,6 @@ unfolding listAnswer
 list-fits g ram out l low bytes e =
     rw e (go (eqb (listingRefusal ram (listing g ram) out) 0) (listing-bound g ram low bytes))
   where
-    go : (t : Bool) → length (listing g ram) ≤ 16 + 79 * 4096 + 9 → lengthOf (pick t (listLength (length (listing g ram))) (listRefused (listingRefusal ram (listing g ram) out))) < 2 ^ 32
+    go : (t : Bool) → length (listing g ram) ≤ 16 + 79 * 4096 + 9 → lengthOf (cond t (listLength (length (listing g ram))) (listRefused (listingRefusal ram (listing g ram) out))) < 2 ^ 32
     go true h = omega arith
     go false h = omega arith

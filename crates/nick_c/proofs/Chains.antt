@@ -1,11 +1,10 @@
 -- The bytes that a call leaves hold the state that the rules leave, so calls one after another follow the rules.
 use mathlib.Core.Path.{_≡_, refl}
-use mathlib.Core.Bool.{Bool, true, false}
+use mathlib.Core.Bool.{Bool, true, false, cond}
 use mathlib.Core.List.{List}
 use Prim.Native.Nat.{ℕ, zero, suc}
 use lib.Dec.{eqb}
 use lib.ListN.{length}
-use Rattle.lists.specs.Choice.{pick}
 use Rattle.nick.specs.Registers.{freshState, writeRefusal, writtenRegisters, writtenScan, written}
 use Rattle.nick.specs.Blocks.{loads, loadedNumber, decoded, blockAt, loaded, continued, begun}
 use Rattle.nick.specs.Scanline.{ended, nextScan}
@@ -30,7 +29,7 @@ begun-eight : (g : Registers) (ram : List ℕ) (c : Scan) → length (c .block .
 unfolding begun loaded continued blockAt decoded
 begun-eight g ram c h = go (loads c)
   where
-    go : (t : Bool) → length (pick t (loaded g (loadedNumber g c) (blockAt ram (loadedNumber g c))) (continued c) .block .col) ≡ 8
+    go : (t : Bool) → length (cond t (loaded g (loadedNumber g c) (blockAt ram (loadedNumber g c))) (continued c) .block .col) ≡ 8
     go true = refl
     go false = h
 
@@ -45,7 +44,7 @@ module _ (s : State) (h : Eight s) where
   unfolding paint painted refusedPainting
   paint-eight ram n dots records external = go (eqb (paintingRefusal s ram n dots records external) 0)
     where
-      go : (t : Bool) → Eight (pick t (painted s ram n external) (refusedPainting (paintingRefusal s ram n dots records external) s dots records) .state)
+      go : (t : Bool) → Eight (cond t (painted s ram n external) (refusedPainting (paintingRefusal s ram n dots records external) s dots records) .state)
       go true = after-eight ram n s h
       go false = h
 
@@ -53,7 +52,7 @@ module _ (s : State) (h : Eight s) where
   unfolding written writtenScan
   write-eight port value = go (eqb (writeRefusal port) 0)
     where
-      go : (t : Bool) → length (pick t (record { registers = writtenRegisters (s .registers) port value; scan = writtenScan (s .scan) port value; virq = s .virq; sync = s .sync }) s .scan .block .col) ≡ 8
+      go : (t : Bool) → length (cond t (record { registers = writtenRegisters (s .registers) port value; scan = writtenScan (s .scan) port value; virq = s .virq; sync = s .sync }) s .scan .block .col) ≡ 8
       go true = h
       go false = h
 

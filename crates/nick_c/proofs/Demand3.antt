@@ -1,13 +1,12 @@
 -- Demand 3 over the exported calls: the bytes that a call leaves hold the rules' state, so the calls leave what the rules' own
 -- list leaves, and the theorem on that list is theirs.
 use mathlib.Core.Path.{_≡_, refl, sym, ap, _∙_}
-use mathlib.Core.Bool.{Bool, true, false}
+use mathlib.Core.Bool.{Bool, true, false, cond}
 use mathlib.Core.List.{List, [], _∷_}
 use Prim.Native.Nat.{ℕ}
 use borrow.Author.Tests.{eq-eqb}
 use lib.Dec.{eqb}
 use lib.ListN.{length}
-use Rattle.lists.specs.Choice.{pick}
 use Rattle.nick.specs.Record.{stateAfter}
 use Rattle.nick.specs.Painting.{Painting, paint}
 use Rattle.claims.specs.Demand3.{Call, oneLine, lines, paintingOf, run}
@@ -33,8 +32,8 @@ module _ (b ram : List ℕ) (whole : length b ≡ 32) where
     p = paint (stateOf b) ram h dots records external
 
     state-held :
-        (t : Bool) → p .state ≡ stateAfter ram (pick t h 0) (stateOf b)
-        → (length (pick t (encoded (p .state)) b) ≡ 32) × (stateOf (pick t (encoded (p .state)) b) ≡ p .state)
+        (t : Bool) → p .state ≡ stateAfter ram (cond t h 0) (stateOf b)
+        → (length (cond t (encoded (p .state)) b) ≡ 32) × (stateOf (cond t (encoded (p .state)) b) ≡ p .state)
     unfolding encoded
     state-held true e = (refl, paint-chains b ram h dots records external)
     state-held false e = (whole, sym e)

@@ -1,11 +1,10 @@
 -- What each exported call answers, and what it leaves in the bytes that it was lent.
 use Prim.Native.Nat.{ℕ}
 use mathlib.Core.Path.{_≡_}
-use mathlib.Core.Bool.{Bool}
+use mathlib.Core.Bool.{Bool, cond}
 use mathlib.Core.List.{List}
 use lib.Dec.{eqb}
 use lib.ListN.{length, replicate}
-use Rattle.lists.specs.Choice.{pick}
 use Rattle.nick.specs.Registers.{freshState, writeRefusal, written}
 use Rattle.nick.specs.Painting.{paint}
 use Rattle.nick.specs.Direct.{direct}
@@ -20,11 +19,11 @@ isState b = eqb (length b) 32
 
 -- what a call answers for these bytes, n being its answer where they are a state: refusal 20 for another length, before all else
 abbrev pub answerFor : List ℕ → ℕ → ℕ
-answerFor b n = pick (isState b) n 20
+answerFor b n = cond (isState b) n 20
 
 -- the state's bytes after a call: a refused call leaves them
 abbrev pub kept : ℕ → State → List ℕ → List ℕ
-kept refusal s b = pick (eqb refusal 0) (encoded s) b
+kept refusal s b = cond (eqb refusal 0) (encoded s) b
 
 -- the fresh state
 pub record Freshens (b₀ b₁ : List ℕ) (r : ℕ) : Type 0 where
@@ -60,7 +59,7 @@ withState b ram h dots records external =
 
 unfoldable pub paintBytes : List ℕ → List ℕ → ℕ → List ℕ → List ℕ → List ℕ → Bytes
 paintBytes b ram h dots records external =
-    pick (isState b) (withState b ram h dots records external) (withoutState b dots records)
+    cond (isState b) (withState b ram h dots records external) (withoutState b dots records)
 
 -- the promise of both paintings
 pub record PaintsBytes (b₀ ram : List ℕ) (h : ℕ) (dots₀ records₀ external b₁ dots₁ records₁ : List ℕ) (r : ℕ) : Type 0 where
@@ -76,4 +75,4 @@ packedDot b ram line dot external = answerFor b (packedAnswer (direct (stateOf b
 -- the listing; a state of another length keeps the output
 pub record ListsBytes (b ram out₀ out₁ : List ℕ) (r : ℕ) : Type 0 where
   pub answer : r ≡ answerFor b (packedListed (listAnswer (stateOf b .registers) ram out₀))
-  pub output : out₁ ≡ pick (isState b) (listOutput (stateOf b .registers) ram out₀) out₀
+  pub output : out₁ ≡ cond (isState b) (listOutput (stateOf b .registers) ram out₀) out₀

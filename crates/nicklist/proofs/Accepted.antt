@@ -1,14 +1,13 @@
 -- A listing that is not refused is no longer than its output.
 use mathlib.Core.Path.{_≡_, refl, sym, ap, _∙_}
-use mathlib.Core.Bool.{Bool, true, false}
+use mathlib.Core.Bool.{Bool, true, false, cond}
 use mathlib.Core.List.{List}
 use Prim.Native.Nat.{ℕ, _≤_}
 use native.Mathlib.Omega.{arith}
 use lib.Dec.{eqb, ltb}
 use lib.ListN.{length}
 use borrow.Author.Tests.{eqb-true, ltb-false}
-use Rattle.lists.specs.Choice.{pick}
-use Rattle.lists.proofs.Tests.{not-picked, rest-zero}
+use Rattle.lists.proofs.Tests.{not-chosen, rest-zero}
 use Rattle.nick.specs.Refusals.{notFull, listingRefusal}
 use Rattle.nick.specs.Listing.{ListAnswered, listing, listRefused, listLength, listAnswered, listAnswer}
 use Rattle.nick.specs.declared.Registers.{Registers}
@@ -18,10 +17,10 @@ use Rattle.files.specs.Writes.{writtenBy, afterWrites}
 use Rattle.nicklist.specs.Lists.{ListsAfter}
 
 -- a length is answered only where the number is 0, and is then the other answer
-listed : (n k : ℕ) (a : ListAnswered) → listLength k ≡ pick (eqb n 0) a (listRefused n) → (n ≡ 0) × (listLength k ≡ a)
+listed : (n k : ℕ) (a : ListAnswered) → listLength k ≡ cond (eqb n 0) a (listRefused n) → (n ≡ 0) × (listLength k ≡ a)
 listed n k a e = go (eqb n 0) refl e
   where
-    go : (t : Bool) → eqb n 0 ≡ t → listLength k ≡ pick t a (listRefused n) → (n ≡ 0) × (listLength k ≡ a)
+    go : (t : Bool) → eqb n 0 ≡ t → listLength k ≡ cond t a (listRefused n) → (n ≡ 0) × (listLength k ≡ a)
     go true h p = (eqb-true n 0 h, p)
     go false h p = let z : _≡_ {A = ℕ} 0 1 = cc in absurd (omega arith)
 
@@ -31,7 +30,7 @@ listing-fits g ram out n h =
     let text = listing g ram in
     let is = listed (listingRefusal ram text out) n (listLength (length text)) h in
     let long : n ≡ length text = cc in
-    let fits = ltb-false (length out) (length text) (not-picked (ltb (length out) (length text)) 9 0 (rest-zero (notFull ram) 3 _ (is .0))) in
+    let fits = ltb-false (length out) (length text) (not-chosen (ltb (length out) (length text)) 9 0 (rest-zero (notFull ram) 3 _ (is .0))) in
     omega (arith, long, fits)
 
 pub fits-after :

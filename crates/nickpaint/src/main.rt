@@ -5,8 +5,8 @@
 // stack has no room for the buffers. Where an output is one of the inputs, by whatever name, nothing is touched.
 ghost use mathlib.Core.Path.{_≡_};
 ghost use Prim.Native.Nat.{_*_, _≤_};
+ghost use mathlib.Core.Bool.{cond};
 ghost use lib.ListN.{length};
-ghost use Rattle.lists.specs.Choice.{pick};
 ghost use Rattle.nickpaint.specs.Arguments.{isClash, isInput, linesStamped, stamps};
 ghost use Rattle.nickpaint.specs.Paintings.{PaintsAfter};
 use files::Number;
@@ -149,7 +149,7 @@ fn read_external(is_given: bool, external: &mut [u8]) -> files::Contents
 
 // Writes RECORDS; where that fails, it is stamped again.
 fn write_records(records: &mut [u8]) -> bool
-    ensures { λ r. ⌜ now (records .exit) ≡ pick r (now (records .entry)) (stamps (now (records .entry))) ⌝ }
+    ensures { λ r. ⌜ now (records .exit) ≡ cond r (now (records .entry)) (stamps (now (records .entry))) ⌝ }
 {
     if files::write_argument(RECORDS, records) {
         return true;

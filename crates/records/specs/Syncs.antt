@@ -2,7 +2,7 @@
 use Prim.Native.Nat.{ℕ, _+_}
 use mathlib.Core.Path.{_≡_}
 use mathlib.Core.Bool.{Bool}
-use Rattle.lists.specs.Choice.{number}
+use Rattle.lists.specs.Number.{number}
 use Rattle.nick.specs.Sync.{syncAt, lineSync, lineSyncCount}
 use Rattle.nick.specs.declared.Block.{Block}
 use Rattle.records.specs.declared.sync.Sync.{Sync}

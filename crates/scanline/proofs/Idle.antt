@@ -1,14 +1,12 @@
 -- A scanline in which no slot fetches: its dots are plain, its pointers stay.
 use mathlib.Core.Path.{_≡_, refl, sym, ap, _∙_}
-use mathlib.Core.Bool.{Bool, true, false, true≢false, _&&_}
+use mathlib.Core.Bool.{Bool, true, false, true≢false, cond, _&&_, and-false}
 use mathlib.Core.List.{List, [], map}
 use Prim.Native.Nat.{ℕ, zero, suc, _+_, _*_, _≤_}
 use native.Mathlib.Decide.{decLe}
 use native.Mathlib.Omega.{arith}
 use borrow.Author.Tests.{le-leb, lt-leb, le-ltb}
 use lib.ListN.{length, replicate, replicate-append-replicate}
-use Rattle.lists.specs.Choice.{pick}
-use Rattle.lists.proofs.Tests.{and-false}
 use Rattle.lists.proofs.Laws.{tab-same, tab-one}
 use Rattle.nick.specs.Numbers.{byteAt}
 use Rattle.nick.specs.Slots.{
@@ -47,17 +45,17 @@ idle b n h = go (modeFetches (modeOf b)) h
     outside e (yes l) = rw (le-leb (leftMargin b) (8 + n) l, le-ltb (8 + n) (rightMargin b) (omega arith))
     outside e (no l) = rw (lt-leb (leftMargin b) (8 + n) (omega arith))
 
-    go : (t : Bool) → pick t (activeSlots b) 0 ≡ 0 → activeAt b n && t ≡ false
+    go : (t : Bool) → cond t (activeSlots b) 0 ≡ 0 → activeAt b n && t ≡ false
     go true e = rw (outside e (decLe (leftMargin b) (8 + n)))
     go false e = and-false (activeAt b n)
 
 module _ (g : Registers) (b : Block) where
   plain : ℕ
-  plain = pick (syncs (modeOf b)) 0 (g .border)
+  plain = cond (syncs (modeOf b)) 0 (g .border)
 
   -- a dot of a slot that does not fetch
   idle-dot : (active : Bool) (m : Mode) (cs : Colours) (bytes : List ℕ) (j e : ℕ) → active && modeFetches m ≡ false
-      → pick (syncs m) 0 (g .border) ≡ dotColour g b (dotIn m active b cs bytes j) e
+      → cond (syncs m) 0 (g .border) ≡ dotColour g b (dotIn m active b cs bytes j) e
   idle-dot active VSYNC cs bytes j e h = refl
   idle-dot active UNUSED cs bytes j e h = refl
   idle-dot false PIXEL cs bytes j e h = refl
@@ -70,7 +68,7 @@ module _ (g : Registers) (b : Block) where
   idle-dot true LPIXEL cs bytes j e h = absurd (true≢false h)
 
   -- its pointers, and what it fetches
-  idle-past : (active : Bool) (m : Mode) (p : Pointers) → active && modeFetches m ≡ false → pick active (slotPointers m p) p ≡ p
+  idle-past : (active : Bool) (m : Mode) (p : Pointers) → active && modeFetches m ≡ false → cond active (slotPointers m p) p ≡ p
   idle-past false m p h = refl
   idle-past true VSYNC p h = refl
   idle-past true UNUSED p h = refl
@@ -80,7 +78,7 @@ module _ (g : Registers) (b : Block) where
   idle-past true LPIXEL p h = absurd (true≢false h)
 
   idle-none : (active : Bool) (m : Mode) (ram : List ℕ) (p : Pointers) → active && modeFetches m ≡ false
-      → pick active (slotFetches m ram p) [] ≡ []
+      → cond active (slotFetches m ram p) [] ≡ []
   idle-none false m ram p h = refl
   idle-none true VSYNC ram p h = refl
   idle-none true UNUSED ram p h = refl
@@ -124,7 +122,7 @@ module _ (g : Registers) (ram : List ℕ) (c : Scan) (ext : ℕ → ℕ) (none :
   slots-none (suc n) = rw (slots-none n, slot-none n (pointersAfter (c .block) n (c .at))) refl
 
   -- the whole scanline
-  pub idle-dots : (k : ℕ) → k ≡ 736 → replicate k (pick (syncs (modeOf (c .block))) 0 (g .border)) ≡ begunDots g ram c ext
+  pub idle-dots : (k : ℕ) → k ≡ 736 → replicate k (cond (syncs (modeOf (c .block))) 0 (g .border)) ≡ begunDots g ram c ext
   unfolding begunDots plain
   idle-dots k e = ap (λ (n : ℕ). replicate n (plain g (c .block))) e ∙ sym (slots-plain 46)
 

@@ -1,11 +1,10 @@
 -- Laws that put a scanline's parts together: its dots, its record, the state after it.
 use mathlib.Core.Path.{_≡_, refl, ap, _∙_}
-use mathlib.Core.Bool.{Bool, true, false}
+use mathlib.Core.Bool.{Bool, true, false, cond}
 use mathlib.Core.List.{List, [], _∷_}
 use Prim.Native.Nat.{ℕ, _+_, _-_, _*_, _/_, _%_}
 use lib.Dec.{eqb}
 use lib.ListN.{length, length-append}
-use Rattle.lists.specs.Choice.{pick}
 use Rattle.lists.proofs.Laws.{length-tab}
 use Rattle.nick.specs.Blocks.{loads, loadedNumber, blockAddresses, begun}
 use Rattle.nick.specs.Scanline.{begunDots, lineDots, begunFetches, lineFetches, ended, nextScan}
@@ -17,7 +16,7 @@ use Rattle.nick.specs.declared.State.{State}
 use Rattle.scanline.specs.Lines.{slotsEnd, endedAt}
 
 -- the fetches of a load
-pub load-length : (t : Bool) (n : ℕ) → length (pick t (blockAddresses n) []) ≡ pick t 16 0
+pub load-length : (t : Bool) (n : ℕ) → length (cond t (blockAddresses n) []) ≡ cond t 16 0
 unfolding blockAddresses
 load-length true n = length-tab (λ i. 16 * n + i) 16
 load-length false n = refl
@@ -49,7 +48,7 @@ module _ (s : State) (ram : List ℕ) (c : Scan) (begins : c ≡ begun (s .regis
       → load ≡ loads (s .scan)
       → f ≡ flags (c .block) (s .virq) load (eqb (d .left) 0)
       → y ≡ lineSyncCount (c .block) (s .sync)
-      → l ≡ pick load 16 0
+      → l ≡ cond load 16 0
       → k ≡ length (begunFetches ram c)
       → n ≡ fetchingSlots (c .block)
       → f ∷ y ∷ (l + k) ∷ n ∷ [] ≡ lineRecord ram s
@@ -64,6 +63,6 @@ module _ (s : State) (ram : List ℕ) (c : Scan) (begins : c ≡ begun (s .regis
         hn,
         hload,
         begins,
-        length-append (pick (loads (s .scan)) (blockAddresses (loadedNumber (s .registers) (s .scan))) []) (begunFetches ram (begun (s .registers) ram (s .scan))),
+        length-append (cond (loads (s .scan)) (blockAddresses (loadedNumber (s .registers) (s .scan))) []) (begunFetches ram (begun (s .registers) ram (s .scan))),
         load-length (loads (s .scan)) (loadedNumber (s .registers) (s .scan)),
       )

@@ -1,8 +1,8 @@
 // One scanline: its dots, its record and the state after it.
 ghost use mathlib.Core.Path.{_≡_};
 ghost use Prim.Native.Nat.{_+_, _*_, _-_, _<_, _≤_};
+ghost use mathlib.Core.Bool.{cond};
 ghost use lib.ListN.{length};
-ghost use Rattle.lists.specs.Choice.{pick};
 ghost use Rattle.nick.specs.Sizes.{recordBytes};
 ghost use Rattle.nick.specs.Slots.{modeOf, linePointers};
 ghost use Rattle.nick.specs.Refusals.{Formed};
@@ -131,7 +131,7 @@ fn end_scan(begun: Scan, at: Pointers) -> Scan
 
 // The bytes that a load fetches.
 fn load_fetches(load: bool) -> u8
-    ensures { λ r. ⌜ (r ≡ pick load 16 0) × (r ≤ 16) ⌝ }
+    ensures { λ r. ⌜ (r ≡ cond load 16 0) × (r ≤ 16) ⌝ }
 {
     if load { 16 } else { 0 }
 }

@@ -1,12 +1,11 @@
 -- The sixteen dots of a slot: those of its cells are the rules' dots, with external input connected or not.
 use mathlib.Core.Path.{_≡_, refl, sym, ap, _∙_}
-use mathlib.Core.Bool.{Bool, true, false}
+use mathlib.Core.Bool.{Bool, true, false, cond}
 use mathlib.Core.List.{List}
 use Prim.Native.Nat.{ℕ, _+_, _*_, _<_}
 use native.Mathlib.Omega.{arith}
 use lib.Dec.{eqb}
 use lib.ListN.{length, replicate, List·getD-eq-default}
-use Rattle.lists.specs.Choice.{pick}
 use Rattle.lists.specs.Tab.{tab}
 use Rattle.lists.proofs.Laws.{length-tab, getD-tab, tab-same, tab-one}
 use Rattle.nick.specs.Numbers.{byteAt}
@@ -49,9 +48,9 @@ unfolding paletteOf
 palette-length g b = length-tab (paletteColour g b) 16
 
 -- one value for all dots, or a value for each
-picked : (t : Bool) (x : ℕ) (f : ℕ → ℕ) → pick t (replicate 16 x) (tab f 16) ≡ tab (λ j. pick t x (f j)) 16
-picked true x f = sym (tab-one x 16)
-picked false x f = refl
+chosen : (t : Bool) (x : ℕ) (f : ℕ → ℕ) → cond t (replicate 16 x) (tab f 16) ≡ tab (λ j. cond t x (f j)) 16
+chosen true x f = sym (tab-one x 16)
+chosen false x f = refl
 
 -- a slot painted with the dots of what it fetched is painted by the rules
 pub any-slot : (g : Registers) (ram : List ℕ) (b : Block) (n : ℕ) (p : Pointers) (external out : List ℕ) (f : Fetched)
@@ -61,7 +60,7 @@ pub any-slot : (g : Registers) (ram : List ℕ) (b : Block) (n : ℕ) (p : Point
     → AnySlot g ram b n p external out (record { at = f .at; fetched = f .count })
 unfolding fetchedDots mixedDots mixedDot slotDots
 any-slot g ram b n p external out f l e o = record {
-  dots = o ∙ rw e (picked (eqb (got .count) 0) (pick (syncs (modeOf b)) 0 (g .border)) dot ∙ tab-same shown ruled 16 same);
+  dots = o ∙ rw e (chosen (eqb (got .count) 0) (cond (syncs (modeOf b)) 0 (g .border)) dot ∙ tab-same shown ruled 16 same);
   at = rw e (moved g ram b p (activeAt b n) (modeOf b));
   fetched = rw e (counted g ram b p (activeAt b n) (modeOf b));
   few = rw e (few g ram b p (activeAt b n) (modeOf b));
@@ -74,7 +73,7 @@ any-slot g ram b n p external out f l e o = record {
     dot j = mixedColour g b (slotPixel got j) (byteAt external (16 * n + j))
 
     shown : ℕ → ℕ
-    shown j = pick (eqb (got .count) 0) (pick (syncs (modeOf b)) 0 (g .border)) (dot j)
+    shown j = cond (eqb (got .count) 0) (cond (syncs (modeOf b)) 0 (g .border)) (dot j)
 
     ruled : ℕ → ℕ
     ruled j = dotColour g b (dotAt (activeAt b n) ram b p j) (byteAt external (16 * n + j))

@@ -1,9 +1,9 @@
 -- The dots that a slot's cells show: pixels in runs of dots, with no external colour and with it.
 use Prim.Native.Nat.{ℕ, _+_, _*_, _/_}
+use mathlib.Core.Bool.{cond}
 use mathlib.Core.List.{List}
 use lib.Dec.{eqb}
 use lib.ListN.{getD, replicate}
-use Rattle.lists.specs.Choice.{pick}
 use Rattle.lists.specs.Tab.{tab}
 use Rattle.nick.specs.Numbers.{byteAt}
 use Rattle.nick.specs.Slots.{modeOf}
@@ -25,7 +25,7 @@ runs g n run = tab (λ j. g (j / run)) (n * run)
 
 -- the colour of pixel k of a byte in two, four and sixteen colours
 abbrev pub twoShown : ℕ → ℕ → ℕ → ℕ → ℕ
-twoShown byte clear set k = pick (eqb (twoIndex byte k) 0) clear set
+twoShown byte clear set k = cond (eqb (twoIndex byte k) 0) clear set
 
 abbrev pub fourShown : List ℕ → ℕ → ℕ → ℕ
 fourShown palette byte k = getD palette (fourIndex byte k) 0
@@ -56,4 +56,4 @@ mixedDots g b f external from = tab (mixedDot g b f external from) 16
 -- the sixteen dots of a slot that fetched or not
 unfoldable pub fetchedDots : Registers → Block → Fetched → List ℕ → ℕ → List ℕ
 fetchedDots g b f external from =
-    pick (eqb (f .count) 0) (replicate 16 (pick (syncs (modeOf b)) 0 (g .border))) (mixedDots g b f external from)
+    cond (eqb (f .count) 0) (replicate 16 (cond (syncs (modeOf b)) 0 (g .border))) (mixedDots g b f external from)

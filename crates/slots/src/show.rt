@@ -2,9 +2,9 @@
 ghost use mathlib.Core.Path.{_≡_};
 ghost use mathlib.Core.List.{_++_};
 ghost use Prim.Native.Nat.{_+_, _*_, _<_, _≤_};
+ghost use mathlib.Core.Bool.{cond};
 ghost use lib.Dec.{eqb};
 ghost use lib.ListN.{length, set, take, drop, replicate};
-ghost use Rattle.lists.specs.Choice.{pick};
 ghost use Rattle.nick.specs.Numbers.{bit, byteAt};
 ghost use Rattle.colour.specs.Cell.{paletteOf};
 ghost use Rattle.slots.specs.Shows.{
@@ -35,7 +35,7 @@ fn show_run(out: &mut [u8], k: usize, run: usize, shown: u8)
 // The colour that bit k of a byte stands for in two colours.
 fn two_shown(byte: u8, k: u8, clear: u8, set: u8) -> u8
     requires { ⌜ k < 8 ⌝ }
-    ensures { λ r. ⌜ r ≡ pick (eqb (bit k byte) 0) clear set ⌝ }
+    ensures { λ r. ⌜ r ≡ cond (eqb (bit k byte) 0) clear set ⌝ }
 {
     if colour::bit_of(byte, k) == 0 {
         clear

@@ -4,7 +4,7 @@ use mathlib.Core.Bool.{Bool, true, false}
 use Prim.Native.Nat.{ℕ, zero, suc, _+_, _*_, _%_, _<_}
 use native.Mathlib.Nat.{add-zero, add-assoc, mul-zero, mul-one, mul-add, mod-add-mod, mod-eq-of-lt}
 use native.Mathlib.Omega.{arith}
-use Rattle.lists.specs.Choice.{number}
+use Rattle.lists.specs.Number.{number}
 use Rattle.nick.specs.Numbers.{up}
 use Rattle.nick.specs.Slots.{Mode, VSYNC, PIXEL, ATTR, CH, UNUSED, LPIXEL, modeOf, slotPointers, linePointers}
 use Rattle.nick.specs.Scanline.{activeAt, pastSlot, pointersAfter}

@@ -1,11 +1,10 @@
 -- Laws on the walk: a scan stays well-formed, which scanlines are stepped together, and walks of some scanlines put together.
 use mathlib.Core.Path.{_≡_, refl, sym, ap, _∙_}
-use mathlib.Core.Bool.{Bool, true, false}
+use mathlib.Core.Bool.{Bool, true, false, cond}
 use mathlib.Core.List.{List}
 use Prim.Native.Nat.{ℕ, zero, suc, _+_, _≤_, _<_, min}
 use native.Mathlib.Nat.{not-suc-le-zero, lt-irrefl}
 use native.Mathlib.Omega.{arith}
-use Rattle.lists.specs.Choice.{pick}
 use Rattle.nick.specs.Blocks.{begun}
 use Rattle.nick.specs.Refusals.{Formed}
 use Rattle.nick.specs.declared.Registers.{Registers}
@@ -28,10 +27,10 @@ pub record Together (d : Scan) (lines n : ℕ) : Type 0 where
   pub within : n ≤ d .left
   pub pending : 1 < n → d .pending ≡ false
 
-pub together : (d : Scan) (lines : ℕ) → 1 ≤ lines → 1 ≤ d .left → Together d lines (pick (d .pending) 1 (min (d .left) lines))
+pub together : (d : Scan) (lines : ℕ) → 1 ≤ lines → 1 ≤ d .left → Together d lines (cond (d .pending) 1 (min (d .left) lines))
 together d lines h l = go (d .pending) refl
   where
-    go : (t : Bool) → d .pending ≡ t → Together d lines (pick t 1 (min (d .left) lines))
+    go : (t : Bool) → d .pending ≡ t → Together d lines (cond t 1 (min (d .left) lines))
     go true e = record { some = omega arith; most = h; within = l; pending = λ k. absurd (lt-irrefl 1 k) }
     go false e = record { some = omega arith; most = omega arith; within = omega arith; pending = λ _. e }
 

@@ -2,7 +2,7 @@
 -- chip: crates/walk/proofs has the laws that tie it to the rules.
 use mathlib.Core.Path.{_≡_}
 use Prim.Native.Nat.{ℕ, _+_, _-_, _*_, _≤_}
-use Rattle.lists.specs.Choice.{pick}
+use mathlib.Core.Bool.{cond}
 use Rattle.nick.specs.Numbers.{up}
 use Rattle.nick.specs.Blocks.{vres}
 use Rattle.nick.specs.Slots.{Mode, VSYNC, PIXEL, ATTR, CH, UNUSED, LPIXEL, modeOf}
@@ -49,6 +49,6 @@ skipped c n = record {
   pending = c .pending;
   block = c .block;
   number = c .number;
-  at = advanced (pick (vres (c .block)) n 1 * rise1 (c .block) 46) (n * lineRise2 (c .block)) (c .at);
+  at = advanced (cond (vres (c .block)) n 1 * rise1 (c .block) 46) (n * lineRise2 (c .block)) (c .at);
   left = c .left - n;
 }

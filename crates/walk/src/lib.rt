@@ -2,8 +2,8 @@
 // singly.
 ghost use mathlib.Core.Path.{_≡_};
 ghost use Prim.Native.Nat.{_<_, _≤_, min};
+ghost use mathlib.Core.Bool.{cond};
 ghost use lib.ListN.{length};
-ghost use Rattle.lists.specs.Choice.{pick};
 ghost use Rattle.nick.specs.Blocks.{vres};
 ghost use Rattle.nick.specs.Slots.{modeNumbered};
 ghost use Rattle.nick.specs.Scanline.{pointersAfter};
@@ -73,7 +73,7 @@ pub fn pointers_at(block: Block, at: Pointers, slot: u16) -> Pointers
 // Over how many of `lines` scanlines of a mode line LD1 goes on: over all with VRES, else over the last alone.
 fn lines_of_ld1(block: Block, lines: u16) -> u16
     requires { ⌜ lines ≤ 256 ⌝ }
-    ensures { λ r. ⌜ (r ≡ pick (vres block) lines 1) × (r ≤ 256) ⌝ }
+    ensures { λ r. ⌜ (r ≡ cond (vres block) lines 1) × (r ≤ 256) ⌝ }
 {
     if block.mb / 16 % 2 == 1 { lines } else { 1 }
 }
@@ -101,7 +101,7 @@ fn skip(scan: Scan, lines: u16) -> Scan
 
 // How many of the next `lines` scanlines belong to the mode line that has begun, or one where a reload is pending.
 fn lines_inside(scan: Scan, lines: usize) -> u16
-    ensures { λ r. ⌜ r ≡ pick (scan .pending) 1 (min (scan .left) lines) ⌝ }
+    ensures { λ r. ⌜ r ≡ cond (scan .pending) 1 (min (scan .left) lines) ⌝ }
 {
     if scan.pending {
         return 1;
