@@ -74,8 +74,10 @@ pub line-text : (n : ℕ) (b : Block) (xs : List ℕ) → xs ≡ numbersAfterNam
 unfolding blockLine
 line-text n b xs e = rw e
 
-pub line-length : (n : ℕ) (b : Block) (xs : List ℕ) → xs ≡ numbersAfterName b
-    → length (blockLine n b) ≡ length (decimal (16 * n)) + length (field (256 - b .sc)) + suc (length (modeName (modeNumber b))) + length (tabbed xs) + 1
+abbrev pub LineLength : ℕ → Block → List ℕ → Type 0
+LineLength n b xs = length (blockLine n b) ≡ length (decimal (16 * n)) + length (field (256 - b .sc)) + suc (length (modeName (modeNumber b))) + length (tabbed xs) + 1
+
+pub line-length : (n : ℕ) (b : Block) (xs : List ℕ) → xs ≡ numbersAfterName b → LineLength n b xs
 line-length n b xs e = rw (line-text n b xs e) (simp length-append)
 
 -- the first line, and the last

@@ -60,7 +60,10 @@ shared-slice-read-t21-2 c = search needs
 
 returns : tie.Need-returns
 unfolding decoded
-returns c = rw (c .before .before .before .before .before .before .before .before .before .before .before .before .before .before .before .word .ensures, c .before .before .before .before .before .before .before .before .before .before .before .before .word2 .ensures)
+returns c =
+    let at-word2 = c .before .before .before .before .before .before .before .before .before .before .before .before in
+    let at-word = at-word2 .before .before .before in
+    rw (at-word .word .ensures, at-word2 .word2 .ensures)
 
 pub decode-spec : {M : Type 1} → statement M
 decode-spec =

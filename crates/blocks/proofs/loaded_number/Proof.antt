@@ -26,9 +26,12 @@ returns-2 c = (rw (c .before .before .before .if1 .left, div-one, c .before .if2
 returns-3 : tie.Need-returns-3
 unfolding loadedNumber
 returns-3 c =
-    let mb = c .before .before .before .before .before .args .scan .block .mb in
-    let lph = c .before .before .before .before .before .args .registers .lph in
-    (rw (c .before .before .before .before .if1 .left, div-one, ne-eqb (mb % 2) 1 (c .before .before .if2 .left), ne-eqb (lph / 64 % 2) 1 (omega arith)), search needs)
+    let at-if2 = c .before .before in
+    let at-if1 = at-if2 .before .before in
+    let start = at-if1 .before in
+    let mb = start .args .scan .block .mb in
+    let lph = start .args .registers .lph in
+    (rw (at-if1 .if1 .left, div-one, ne-eqb (mb % 2) 1 (at-if2 .if2 .left), ne-eqb (lph / 64 % 2) 1 (omega arith)), search needs)
 
 add-result : tie.Need-add-result
 add-result c = search needs
@@ -36,9 +39,12 @@ add-result c = search needs
 returns-4 : tie.Need-returns-4
 unfolding loadedNumber
 returns-4 c =
-    let mb = c .before .before .before .before .before .before .args .scan .block .mb in
-    let lph = c .before .before .before .before .before .before .args .registers .lph in
-    (rw (c .before .before .before .before .before .if1 .left, div-one, ne-eqb (mb % 2) 1 (c .before .before .before .if2 .left), eq-eqb (lph / 64 % 2) 1 (omega arith)), omega arith)
+    let at-if2 = c .before .before .before in
+    let at-if1 = at-if2 .before .before in
+    let start = at-if1 .before in
+    let mb = start .args .scan .block .mb in
+    let lph = start .args .registers .lph in
+    (rw (at-if1 .if1 .left, div-one, ne-eqb (mb % 2) 1 (at-if2 .if2 .left), eq-eqb (lph / 64 % 2) 1 (omega arith)), omega arith)
 
 pub loaded-number-spec : {M : Type 1} → statement M
 loaded-number-spec =

@@ -28,9 +28,11 @@ cell-of-requires c κs = search needs
 
 returns : tie.Need-returns
 returns c =
-    let a = c .before .before .before .before .args in
-    let first = c .before .before .before .both-set in
-    let second = c .before .before .both-set2 in
+    let at-both-set2 = c .before .before in
+    let at-both-set = at-both-set2 .before in
+    let a = at-both-set .before .args in
+    let first = at-both-set .both-set in
+    let second = at-both-set2 .both-set2 in
     c .cell-of .ensures
     ∙ character-both (a .block) (a .code) (a .byte) (first .result) (second .result) (first .ensures) (second .ensures)
 

@@ -45,11 +45,13 @@ cell-of-requires-2 c κs = search needs
 
 returns-2 : tie.Need-returns-2
 returns-2 c =
-    let a = c .before .before .before .before .before .args in
-    let msb = c .before .before .both-set in
+    let at-both-set = c .before .before in
+    let at-if1 = at-both-set .before in
+    let a = at-if1 .before .before .args in
+    let msb = at-both-set .both-set in
     let lsb = c .before .both-set2 in
     c .cell-of2 .ensures
-    ∙ graphics-two (a .block) (a .byte) (msb .result) (lsb .result) (c .before .before .before .if1 .left) (msb .ensures) (lsb .ensures)
+    ∙ graphics-two (a .block) (a .byte) (msb .result) (lsb .result) (at-if1 .if1 .left) (msb .ensures) (lsb .ensures)
 
 pub graphics-cell-spec : {M : Type 1} → statement M
 graphics-cell-spec =

@@ -14,10 +14,11 @@ palette-colour-requires c κs = search needs
 
 returns : tie.Need-returns
 returns c =
-    let a = c .before .before .before .args in
+    let at-external-wins = c .before .before in
+    let a = at-external-wins .before .args in
     c .palette-colour .ensures
     ∙ wins (a .registers) (a .block) (a .pixel) (a .external)
-    (sym (c .before .before .external-wins .ensures) ∙ c .before .if1 .taken)
+    (sym (at-external-wins .external-wins .ensures) ∙ c .before .if1 .taken)
 
 enum-known-pixel : tie.Need-enum-known-pixel
 enum-known-pixel c = search needs
@@ -30,18 +31,23 @@ enum-known-pixel-2 c = search needs
 
 returns-2 : tie.Need-returns-2
 returns-2 c =
-    let a = c .before .before .before .before .before .before .args in
+    let at-pixel = c .before .before in
+    let at-if1 = at-pixel .before .before in
+    let at-external-wins = at-if1 .before in
+    let a = at-external-wins .before .args in
     c .palette-colour2 .ensures
-    ∙ ap (pixelColour (a .registers) (a .block)) (sym (c .before .before .pixel .given .1))
+    ∙ ap (pixelColour (a .registers) (a .block)) (sym (at-pixel .pixel .given .1))
     ∙ loses (a .registers) (a .block) (a .pixel) (a .external)
-    (sym (c .before .before .before .before .before .external-wins .ensures) ∙ c .before .before .before .before .if1 .left)
+    (sym (at-external-wins .external-wins .ensures) ∙ at-if1 .if1 .left)
 
 returns-3 : tie.Need-returns-3
 returns-3 c =
-    let a = c .before .before .before .before .before .args in
+    let at-if1 = c .before .before .before in
+    let at-external-wins = at-if1 .before in
+    let a = at-external-wins .before .args in
     ap (pixelColour (a .registers) (a .block)) (sym (c .before .pixel2 .given .1))
     ∙ loses (a .registers) (a .block) (a .pixel) (a .external)
-    (sym (c .before .before .before .before .external-wins .ensures) ∙ c .before .before .before .if1 .left)
+    (sym (at-external-wins .external-wins .ensures) ∙ at-if1 .if1 .left)
 
 pub mixed-colour-spec : {M : Type 1} → statement M
 mixed-colour-spec =

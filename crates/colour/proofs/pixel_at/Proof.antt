@@ -32,17 +32,21 @@ returns-3 c = at-all (c .before .args .cell) (c .before .args .at) (c .match .ke
 
 returns-4 : tie.Need-returns-4
 returns-4 c =
-    let none = c .before .before .before .match .rest in
-    let a = c .before .before .before .before .args in
+    let at-bit-of = c .before .before in
+    let at-match = at-bit-of .before in
+    let none = at-match .match .rest in
+    let a = at-match .before .args in
     at-two-low (a .cell) (a .at) (two-else (a .cell .colours) (none .0 .0 .1) (none .0 .1) (none .1))
-    (sym (c .before .before .bit-of .ensures) ∙ c .before .if1 .taken)
+    (sym (at-bit-of .bit-of .ensures) ∙ c .before .if1 .taken)
 
 returns-5 : tie.Need-returns-5
 returns-5 c =
-    let none = c .before .before .before .match .rest in
-    let a = c .before .before .before .before .args in
+    let at-bit-of = c .before .before in
+    let at-match = at-bit-of .before in
+    let none = at-match .match .rest in
+    let a = at-match .before .args in
     at-two-high (a .cell) (a .at) (two-else (a .cell .colours) (none .0 .0 .1) (none .0 .1) (none .1))
-    (λ e. c .before .if1 .left (c .before .before .bit-of .ensures ∙ e))
+    (λ e. c .before .if1 .left (at-bit-of .bit-of .ensures ∙ e))
 
 pub pixel-at-spec : {M : Type 1} → statement M
 pixel-at-spec =

@@ -39,11 +39,13 @@ loop-less c = search needs
 
 loop-again : tie.Need-loop-again Inv-loop μ-loop
 loop-again c =
-    let f = paletteColour (c .before .before .before .before .args .registers) (c .before .before .before .before .args .block) in
-    let n = c .before .before .loop .n in (
+    let at-loop = c .before .before in
+    let start = at-loop .before .before in
+    let f = paletteColour (start .args .registers) (start .args .block) in
+    let n = at-loop .loop .n in (
       omega arith,
-      simp length-set (c .before .before .loop .inv .1),
-      rw (c .palette-colour .ensures) (tab-stored f (c .before .before .before .before .args .out .now) (c .before .before .loop .out) n (c .before .before .loop .inv .2) (omega arith)),
+      simp length-set (at-loop .loop .inv .1),
+      rw (c .palette-colour .ensures) (tab-stored f (start .args .out .now) (at-loop .loop .out) n (at-loop .loop .inv .2) (omega arith)),
     )
 
 same-length : tie.Need-same-length Inv-loop μ-loop
@@ -52,9 +54,10 @@ same-length c = search needs
 returns : tie.Need-returns Inv-loop μ-loop
 unfolding paletteOf
 returns c =
-    let f = paletteColour (c .before .before .before .args .registers) (c .before .before .before .args .block) in
+    let start = c .before .before .before in
+    let f = paletteColour (start .args .registers) (start .args .block) in
     let all : c .before .loop .n ≡ 16 = omega arith in
-    tab-all f (c .before .before .before .args .out .now) (c .before .loop .out) (c .before .loop .n) (c .before .loop .inv .2) (omega arith) ∙ ap (tab f) all
+    tab-all f (start .args .out .now) (c .before .loop .out) (c .before .loop .n) (c .before .loop .inv .2) (omega arith) ∙ ap (tab f) all
 
 pub put-palette-spec : {M : Type 1} → statement M
 put-palette-spec =

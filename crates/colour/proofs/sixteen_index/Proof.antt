@@ -49,7 +49,9 @@ add-result-3 c = search needs
 returns : tie.Need-returns
 unfolding sixteenIndex
 returns c =
-    rw (c .before .before .before .bit-of .ensures, c .before .before .bit-of2 .ensures, c .before .bit-of3 .ensures, c .bit-of4 .ensures)
+    let at-bit-of2 = c .before .before in
+    let at-bit-of = at-bit-of2 .before in
+    rw (at-bit-of .bit-of .ensures, at-bit-of2 .bit-of2 .ensures, c .before .bit-of3 .ensures, c .bit-of4 .ensures)
 
 pub sixteen-index-spec : {M : Type 1} → statement M
 sixteen-index-spec =

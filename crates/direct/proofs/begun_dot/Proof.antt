@@ -18,10 +18,12 @@ sourced-colour-requires c κs = search needs
 
 returns : tie.Need-returns
 returns c =
-    let at = c .before .before .pointers-at in
-    let a = c .before .before .before .before .before .before .args in
+    let at-pointers-at = c .before .before in
+    let at-shared-slice-known = at-pointers-at .before .before .before in
+    let at = at-pointers-at .pointers-at in
+    let a = at-shared-slice-known .before .args in
     slot-answer (a .registers) (a .ram .now) (a .scan) (a .dot) (a .external) (c .sourced-colour .result) (at .result) _
-    (c .before .before .before .before .before .shared-slice-known .given (at .result .ld1) .fits) (at .ensures) (c .before .sources-at .ensures) (c .sourced-colour .ensures)
+    (at-shared-slice-known .shared-slice-known .given (at .result .ld1) .fits) (at .ensures) (c .before .sources-at .ensures) (c .sourced-colour .ensures)
 
 pub begun-dot-spec : {M : Type 1} → statement M
 begun-dot-spec =

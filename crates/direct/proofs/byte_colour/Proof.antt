@@ -19,7 +19,10 @@ mixed-colour-requires c κs = rw (c .pixel-at .ensures) (cell-below (c .before .
 
 returns : tie.Need-returns
 unfolding byteColour
-returns c = rw (c .mixed-colour .ensures, c .before .pixel-at .ensures, c .before .before .before .cell-from .ensures, c .before .before .eighth-of .ensures .0)
+returns c =
+    let at-eighth-of = c .before .before in
+    let at-cell-from = at-eighth-of .before in
+    rw (c .mixed-colour .ensures, c .before .pixel-at .ensures, at-cell-from .cell-from .ensures, at-eighth-of .eighth-of .ensures .0)
 
 pub byte-colour-spec : {M : Type 1} → statement M
 byte-colour-spec =

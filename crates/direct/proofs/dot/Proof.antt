@@ -33,8 +33,8 @@ begun-dot-requires c κs = (asked (c .before .before) .full, omega (arith, asked
 
 returns-2 : tie.Need-returns-2
 returns-2 c =
-    let begun = c .before .begin-line in
     let past = c .before .before .before in
+    let begun = c .before .begin-line in
     let table = past .before .refusal in
     let a = past .before .before .before .args in
     c .begun-dot .ensures

@@ -27,21 +27,26 @@ is-not-full-requires c κs = search needs
 
 returns-2 : tie.Need-returns-2
 returns-2 c =
-    let a = c .before .before .before .before .before .args in
-    refused-ram (a .state) (a .ram .now) (a .line) (a .dot) (formed (c .before .before)) (sym (c .before .is-not-full .ensures) ∙ c .if2 .taken)
+    let place = c .before .before in
+    let a = place .before .before .before .args in
+    refused-ram (a .state) (a .ram .now) (a .line) (a .dot) (formed place) (sym (c .before .is-not-full .ensures) ∙ c .if2 .taken)
 
 is-bad-place-requires : tie.Need-is-bad-place-requires
 is-bad-place-requires c κs = search needs
 
 returns-3 : tie.Need-returns-3
 returns-3 c =
-    let a = c .before .before .before .before .before .before .before .args in
-    refused-place (a .state) (a .ram .now) (a .line) (a .dot) (formed (c .before .before .before .before)) (full (c .before .before)) (sym (c .before .is-bad-place .ensures) ∙ c .if3 .taken)
+    let place = c .before .before in
+    let place-2 = place .before .before in
+    let a = place-2 .before .before .before .args in
+    refused-place (a .state) (a .ram .now) (a .line) (a .dot) (formed place-2) (full place) (sym (c .before .is-bad-place .ensures) ∙ c .if3 .taken)
 
 returns-4 : tie.Need-returns-4
 returns-4 c =
-    let a = c .before .before .before .before .before .before .before .args in
-    not-refused (a .state) (a .ram .now) (a .line) (a .dot) (formed (c .before .before .before .before)) (full (c .before .before)) (sym (c .before .is-bad-place .ensures) ∙ c .if3 .left)
+    let place = c .before .before in
+    let place-2 = place .before .before in
+    let a = place-2 .before .before .before .args in
+    not-refused (a .state) (a .ram .now) (a .line) (a .dot) (formed place-2) (full place) (sym (c .before .is-bad-place .ensures) ∙ c .if3 .left)
 
 pub refusal-spec : {M : Type 1} → statement M
 refusal-spec =

@@ -58,7 +58,12 @@ word-requires-4 c κs = search needs
 
 returns : tie.Need-returns
 unfolding scanOf
-returns c = rw (div-one, c .before .before .before .before .before .before .before .before .before .before .before .before .word .ensures, c .before .before .before .before .before .before .before .before .before .word2 .ensures, c .before .before .before .before .before .before .before .decode .ensures, c .before .before .before .word3 .ensures, c .word4 .ensures)
+returns c =
+    let at-word3 = c .before .before .before in
+    let at-decode = at-word3 .before .before .before .before in
+    let at-word2 = at-decode .before .before in
+    let at-word = at-word2 .before .before .before in
+    rw (div-one, at-word .word .ensures, at-word2 .word2 .ensures, at-decode .decode .ensures, at-word3 .word3 .ensures, c .word4 .ensures)
 
 pub decode-scan-spec : {M : Type 1} → statement M
 decode-scan-spec =

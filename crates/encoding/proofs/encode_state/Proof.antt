@@ -19,7 +19,10 @@ same-length c = search needs
 
 returns : tie.Need-returns
 returns c =
-    copied (c .before .before .before .before .before .state-bytes .result) (c .before .before .before .before .before .before .before .args .out .now) _ (c .before .before .copy .ensures .1) (search needs) ∙ c .before .before .before .before .before .state-bytes .ensures
+    let at-copy = c .before .before in
+    let at-state-bytes = at-copy .before .before .before in
+    let start = at-state-bytes .before .before in
+    copied (at-state-bytes .state-bytes .result) (start .args .out .now) _ (at-copy .copy .ensures .1) (search needs) ∙ at-state-bytes .state-bytes .ensures
 
 pub encode-state-spec : {M : Type 1} → statement M
 encode-state-spec =

@@ -69,11 +69,25 @@ element-copy-out-t49 c = search needs
 
 returns : tie.Need-returns
 returns c =
-    bytes-put (c .before .before .before .before .before .before .before .before .before .before .before .before .before .before .before .before .before .before .before .before .before .before .before .before .args .state)
-    (c .before .before .before .before .before .before .before .before .before .before .before .before .before .before .before .before .before .before .before .before .flags .result) (c .before .before .before .before .before .before .before .before .before .before .before .before .before .before .before .before .before .before .before .low .result) (c .before .before .before .before .before .before .before .before .before .before .before .before .before .before .before .before .before .before .high .result) (c .before .before .before .before .before .before .before .before .before .before .before .before .before .before .before .before .before .low2 .result) (c .before .before .before .before .before .before .before .before .before .before .before .before .before .before .before .before .high2 .result) (c .before .before .before .before .before .before .before .before .before .before .before .before .before .before .before .low3 .result) (c .before .before .before .before .before .before .before .before .before .before .before .before .before .before .high3 .result)
-    (c .before .before .before .before .before .before .before .before .before .before .before .before .before .low4 .result) (c .before .before .before .before .before .before .before .before .before .before .before .before .high4 .result) (c .before .before .before .before .before .before .before .before .before .before .before .low5 .result) (c .before .before .before .before .before .before .before .before .before .before .high5 .result) (c .before .before .before .before .before .before .before .before .before .low6 .result) (c .before .before .before .before .before .before .before .before .high6 .result)
-    (c .before .before .before .before .before .before .before .before .before .before .before .before .before .before .before .before .before .before .before .before .flags .ensures) (c .before .before .before .before .before .before .before .before .before .before .before .before .before .before .before .before .before .before .before .low .ensures) (c .before .before .before .before .before .before .before .before .before .before .before .before .before .before .before .before .before .before .high .ensures) (c .before .before .before .before .before .before .before .before .before .before .before .before .before .before .before .before .before .low2 .ensures) (c .before .before .before .before .before .before .before .before .before .before .before .before .before .before .before .before .high2 .ensures) (c .before .before .before .before .before .before .before .before .before .before .before .before .before .before .before .low3 .ensures) (c .before .before .before .before .before .before .before .before .before .before .before .before .before .before .high3 .ensures)
-    (c .before .before .before .before .before .before .before .before .before .before .before .before .before .low4 .ensures) (c .before .before .before .before .before .before .before .before .before .before .before .before .high4 .ensures) (c .before .before .before .before .before .before .before .before .before .before .before .low5 .ensures) (c .before .before .before .before .before .before .before .before .before .before .high5 .ensures) (c .before .before .before .before .before .before .before .before .before .low6 .ensures) (c .before .before .before .before .before .before .before .before .high6 .ensures)
+    let at-high6 = c .before .before .before .before .before .before .before .before in
+    let at-low6 = at-high6 .before in
+    let at-high5 = at-low6 .before in
+    let at-low5 = at-high5 .before in
+    let at-high4 = at-low5 .before in
+    let at-low4 = at-high4 .before in
+    let at-high3 = at-low4 .before in
+    let at-low3 = at-high3 .before in
+    let at-high2 = at-low3 .before in
+    let at-low2 = at-high2 .before in
+    let at-high = at-low2 .before in
+    let at-low = at-high .before in
+    let at-flags = at-low .before in
+    let start = at-flags .before .before .before .before in
+    bytes-put (start .args .state)
+    (at-flags .flags .result) (at-low .low .result) (at-high .high .result) (at-low2 .low2 .result) (at-high2 .high2 .result) (at-low3 .low3 .result) (at-high3 .high3 .result)
+    (at-low4 .low4 .result) (at-high4 .high4 .result) (at-low5 .low5 .result) (at-high5 .high5 .result) (at-low6 .low6 .result) (at-high6 .high6 .result)
+    (at-flags .flags .ensures) (at-low .low .ensures) (at-high .high .ensures) (at-low2 .low2 .ensures) (at-high2 .high2 .ensures) (at-low3 .low3 .ensures) (at-high3 .high3 .ensures)
+    (at-low4 .low4 .ensures) (at-high4 .high4 .ensures) (at-low5 .low5 .ensures) (at-high5 .high5 .ensures) (at-low6 .low6 .ensures) (at-high6 .high6 .ensures)
 
 pub state-bytes-spec : {M : Type 1} → statement M
 state-bytes-spec =

@@ -33,7 +33,10 @@ returns-2 c = let half : c .before .before .before .before .args .j / 8 ≡ 0 = 
 
 returns-3 : tie.Need-returns-3
 unfolding modeNumbered
-returns-3 c = let half : c .before .before .before .before .before .args .j / 8 ≡ 1 = omega arith in rw (c .before .before .match .keys2, half, c .wrapping-add-u16 .ensures)
+returns-3 c =
+    let at-match = c .before .before in
+    let start = at-match .before .before .before in
+    let half : start .args .j / 8 ≡ 1 = omega arith in rw (at-match .match .keys2, half, c .wrapping-add-u16 .ensures)
 
 returns-4 : tie.Need-returns-4
 unfolding modeNumbered

@@ -29,7 +29,10 @@ one-cell-requires : tie.Need-one-cell-requires
 one-cell-requires c κs = search needs
 
 returns : tie.Need-returns
-returns c = rw (c .one-cell .ensures, c .before .wrapping-add-u162 .ensures, c .before .before .wrapping-add-u16 .ensures, c .before .before .before .attribute-cell .ensures)
+returns c =
+    let at-wrapping-add-u16 = c .before .before in
+    let at-attribute-cell = at-wrapping-add-u16 .before in
+    rw (c .one-cell .ensures, c .before .wrapping-add-u162 .ensures, at-wrapping-add-u16 .wrapping-add-u16 .ensures, at-attribute-cell .attribute-cell .ensures)
 
 pub attribute-spec : {M : Type 1} → statement M
 attribute-spec =

@@ -29,7 +29,10 @@ one-cell-requires : tie.Need-one-cell-requires
 one-cell-requires c κs = search needs
 
 returns : tie.Need-returns
-returns c = rw (c .one-cell .ensures, c .before .wrapping-add-u16 .ensures, c .before .before .character-cell .ensures, c .before .before .before .before .font-address .ensures)
+returns c =
+    let at-character-cell = c .before .before in
+    let at-font-address = at-character-cell .before .before in
+    rw (c .one-cell .ensures, c .before .wrapping-add-u16 .ensures, at-character-cell .character-cell .ensures, at-font-address .font-address .ensures)
 
 pub character-spec : {M : Type 1} → statement M
 character-spec =

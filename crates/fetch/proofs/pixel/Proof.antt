@@ -29,7 +29,10 @@ wrapping-add-u16-requires-2 : tie.Need-wrapping-add-u16-requires-2
 wrapping-add-u16-requires-2 c κs = search needs
 
 returns : tie.Need-returns
-returns c = rw (c .wrapping-add-u162 .ensures, c .before .graphics-cell2 .ensures, c .before .before .before .graphics-cell .ensures, c .before .before .before .before .before .wrapping-add-u16 .ensures)
+returns c =
+    let at-graphics-cell = c .before .before .before in
+    let at-wrapping-add-u16 = at-graphics-cell .before .before in
+    rw (c .wrapping-add-u162 .ensures, c .before .graphics-cell2 .ensures, at-graphics-cell .graphics-cell .ensures, at-wrapping-add-u16 .wrapping-add-u16 .ensures)
 
 pub pixel-spec : {M : Type 1} → statement M
 pixel-spec =

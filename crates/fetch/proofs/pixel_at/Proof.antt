@@ -11,7 +11,10 @@ pixel-at-requires : tie.Need-pixel-at-requires
 pixel-at-requires c κs = search needs
 
 returns : tie.Need-returns
-returns c = rw (c .before .before .if1 .taken, lt-ltb (c .before .before .before .args .j) 8 (c .before .if2 .taken)) (c .pixel-at .ensures)
+returns c =
+    let at-if1 = c .before .before in
+    let start = at-if1 .before in
+    rw (at-if1 .if1 .taken, lt-ltb (start .args .j) 8 (c .before .if2 .taken)) (c .pixel-at .ensures)
 
 cast-pixel-at-2 : tie.Need-cast-pixel-at-2
 cast-pixel-at-2 c = search needs
@@ -20,7 +23,10 @@ pixel-at-requires-2 : tie.Need-pixel-at-requires-2
 pixel-at-requires-2 c κs = search needs
 
 returns-2 : tie.Need-returns-2
-returns-2 c = rw (c .before .before .if1 .taken, le-ltb (c .before .before .before .args .j) 8 (c .before .if2 .left)) (c .pixel-at2 .ensures)
+returns-2 c =
+    let at-if1 = c .before .before in
+    let start = at-if1 .before in
+    rw (at-if1 .if1 .taken, le-ltb (start .args .j) 8 (c .before .if2 .left)) (c .pixel-at2 .ensures)
 
 cast-pixel-at-3 : tie.Need-cast-pixel-at-3
 cast-pixel-at-3 c = search needs

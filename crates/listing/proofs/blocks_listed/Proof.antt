@@ -30,13 +30,16 @@ add-result c = search needs
 
 returns : tie.Need-returns Inv-loop μ-loop
 returns c =
-    let start = c .before .before .before .before .before .before .before in
+    let at-number-after = c .before .before in
+    let at-loop = at-number-after .before .before in
+    let at-base-number = at-loop .before in
+    let start = at-base-number .before .before in
     let ram = start .args .ram .now in
-    let base = c .before .before .before .before .before .base-number in
+    let base = at-base-number .base-number in
     omega (
       arith,
       listed-after (start .args .registers) ram (base .result) (base .ensures .0) (base .ensures .1),
-      after-reload 4096 ram (base .result) (c .before .before .before .before .loop .k) (omega arith) (rw (c .before .before .number-after .ensures .0) at (sym (c .before .has-reload .ensures) ∙ c .if1 .taken)),
+      after-reload 4096 ram (base .result) (at-loop .loop .k) (omega arith) (rw (at-number-after .number-after .ensures .0) at (sym (c .before .has-reload .ensures) ∙ c .if1 .taken)),
     )
 
 add-k : tie.Need-add-k Inv-loop μ-loop
@@ -47,16 +50,21 @@ loop-less c = search needs
 
 loop-again : tie.Need-loop-again Inv-loop μ-loop
 loop-again c =
+    let at-number-after = c .before .before in
+    let at-loop = at-number-after .before .before in
+    let at-base-number = at-loop .before in
+    let start = at-base-number .before .before in
     omega (
       arith,
-      after-more 4096 (c .before .before .before .before .before .before .before .args .ram .now) (c .before .before .before .before .before .base-number .result) (c .before .before .before .before .loop .k) (omega arith) (rw (c .before .before .number-after .ensures .0) at (sym (c .before .has-reload .ensures) ∙ c .if1 .left)),
+      after-more 4096 (start .args .ram .now) (at-base-number .base-number .result) (at-loop .loop .k) (omega arith) (rw (at-number-after .number-after .ensures .0) at (sym (c .before .has-reload .ensures) ∙ c .if1 .left)),
     )
 
 returns-2 : tie.Need-returns-2 Inv-loop μ-loop
 returns-2 c =
-    let start = c .before .before .before .before in
+    let at-base-number = c .before .before in
+    let start = at-base-number .before .before in
     let ram = start .args .ram .now in
-    let base = c .before .before .base-number in
+    let base = at-base-number .base-number in
     omega (
       arith,
       listed-after (start .args .registers) ram (base .result) (base .ensures .0) (base .ensures .1),

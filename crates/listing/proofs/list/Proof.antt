@@ -35,23 +35,29 @@ same-length c = search needs
 
 returns-2 : tie.Need-returns-2
 returns-2 c =
-    let counted = c .before .before .before .put-listing .ensures in
-    let past = c .before .before .before .before .before in
+    let at-put-listing = c .before .before .before in
+    let past = at-put-listing .before .before in
+    let counted = at-put-listing .put-listing .ensures in
     let a = past .before .before .before .before .args in
     rw (wrote-nothing counted) (refused-short (a .registers) (a .ram .now) (a .out .now) (whole past) (counted .ends) (omega arith))
 
 put-listing-requires-2 : tie.Need-put-listing-requires-2
-put-listing-requires-2 c κs = full (c .before .before .before .before .before .before .before .before .before .before .args .ram .now) (whole (c .before .before .before .before .before .before))
+put-listing-requires-2 c κs =
+    let place = c .before .before .before .before .before .before in
+    let start = place .before .before .before .before in
+    full (start .args .ram .now) (whole place)
 
 same-length-2 : tie.Need-same-length-2
 same-length-2 c = search needs
 
 returns-3 : tie.Need-returns-3
 returns-3 c =
-    let counted = c .before .before .before .before .before .before .before .put-listing .ensures in
-    let past = c .before .before .before .before .before .before .before .before .before in
+    let at-put-listing2 = c .before .before in
+    let at-put-listing = at-put-listing2 .before .before .before .before .before in
+    let past = at-put-listing .before .before in
+    let counted = at-put-listing .put-listing .ensures in
     let a = past .before .before .before .before .args in
-    let wrote = rw (wrote-nothing counted) at (c .before .before .put-listing2 .ensures) in
+    let wrote = rw (wrote-nothing counted) at (at-put-listing2 .put-listing2 .ensures) in
     listed (a .registers) (a .ram .now) (a .out .now) (whole past) (counted .ends) (omega arith) wrote
 
 pub list-spec : {M : Type 1} → statement M

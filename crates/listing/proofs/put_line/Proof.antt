@@ -14,14 +14,22 @@ block-at-requires : tie.Need-block-at-requires
 block-at-requires c κs = search needs
 
 put-block-requires : tie.Need-put-block-requires
-put-block-requires c κs = (omega arith, rw (c .block-at .ensures, c .before .before .number-after .ensures .0, c .before .before .before .base-number .ensures .0) (c .before .before .before .before .before .before .pre .2))
+put-block-requires c κs =
+    let at-number-after = c .before .before in
+    let at-base-number = at-number-after .before in
+    let start = at-base-number .before .before .before in
+    (omega arith, rw (c .block-at .ensures, at-number-after .number-after .ensures .0, at-base-number .base-number .ensures .0) (start .pre .2))
 
 same-length : tie.Need-same-length
 same-length c = search needs
 
 returns : tie.Need-returns
 returns c =
-    rw (c .before .before .before .block-at .ensures, c .before .before .before .before .before .number-after .ensures .0, c .before .before .before .before .before .before .base-number .ensures .0) at (c .before .before .put-block .ensures)
+    let at-put-block = c .before .before in
+    let at-block-at = at-put-block .before in
+    let at-number-after = at-block-at .before .before in
+    let at-base-number = at-number-after .before in
+    rw (at-block-at .block-at .ensures, at-number-after .number-after .ensures .0, at-base-number .base-number .ensures .0) at (at-put-block .put-block .ensures)
 
 pub put-line-spec : {M : Type 1} → statement M
 put-line-spec =

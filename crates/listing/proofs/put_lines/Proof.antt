@@ -21,10 +21,12 @@ loop-holds c = (omega arith, wrote-none _ _)
 
 put-line-requires : tie.Need-put-line-requires Inv-loop μ-loop
 put-line-requires c κs =
-    let start = c .before .before .before .before .before in (
+    let at-loop = c .before .before in
+    let place = at-loop .before .before .before in
+    let start = place in (
       omega arith,
       start .pre .1,
-      line-room (start .args .registers) (start .args .ram .now) (c .before .before .loop .k) (start .args .count) (c .before .loop-test .taken) (c .before .before .loop .inv .1) (start .pre .2),
+      line-room (start .args .registers) (start .args .ram .now) (at-loop .loop .k) (start .args .count) (c .before .loop-test .taken) (at-loop .loop .inv .1) (start .pre .2),
     )
 
 add-k : tie.Need-add-k Inv-loop μ-loop
@@ -34,10 +36,13 @@ loop-less : tie.Need-loop-less Inv-loop μ-loop
 loop-less c = search needs
 
 loop-again : tie.Need-loop-again Inv-loop μ-loop
-loop-again c = (
-  omega arith,
-  line-more (c .before .before .before .before .before .before .before .before .args .registers) (c .before .before .before .before .before .before .before .before .args .ram .now) (c .before .before .before .before .before .loop .k) (c .before .before .before .before .before .loop .inv .1) (c .before .before .put-line .ensures),
-)
+loop-again c =
+    let at-put-line = c .before .before in
+    let at-loop = at-put-line .before .before .before in
+    let start = at-loop .before .before .before in (
+      omega arith,
+      line-more (start .args .registers) (start .args .ram .now) (at-loop .loop .k) (at-loop .loop .inv .1) (at-put-line .put-line .ensures),
+    )
 
 same-length : tie.Need-same-length Inv-loop μ-loop
 same-length c = wrote-kept (c .before .loop .inv .1)

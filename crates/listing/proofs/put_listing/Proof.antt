@@ -36,8 +36,10 @@ bounded :
     (c : tie.After-base-number) →
     length (wordLine header (16 * base c)) + length (blockLines (g c) (ram c) (count c)) + length (wordLine endTab (count c)) ≤ 16 + 79 * 4096 + 9
 bounded c =
-    let e = listing-length (g c) (ram c) (base c) (count c) (c .base-number .ensures .0) (c .before .before .before .blocks-listed .ensures) in
-    rw e at (listing-bound (g c) (ram c) (omega arith) (λ i. c .before .before .before .before .shared-slice-known .given i .fits))
+    let at-blocks-listed = c .before .before .before in
+    let at-shared-slice-known = at-blocks-listed .before in
+    let e = listing-length (g c) (ram c) (base c) (count c) (c .base-number .ensures .0) (at-blocks-listed .blocks-listed .ensures) in
+    rw e at (listing-bound (g c) (ram c) (omega arith) (λ i. at-shared-slice-known .shared-slice-known .given i .fits))
 
 blocks-listed-requires : tie.Need-blocks-listed-requires
 blocks-listed-requires c κs = search needs
@@ -58,20 +60,28 @@ put-word-line-requires : tie.Need-put-word-line-requires
 put-word-line-requires c κs = omega (arith, bounded c)
 
 put-lines-requires : tie.Need-put-lines-requires
-put-lines-requires c κs = omega (arith, bounded (c .before .before .before .before), listed-limit (g (c .before .before .before .before)) (ram (c .before .before .before .before)))
+put-lines-requires c κs =
+    let place = c .before .before .before .before in
+    omega (arith, bounded place, listed-limit (g place) (ram place))
 
 slice-aggregate-put-word-line-2 : tie.Need-slice-aggregate-put-word-line-2
 slice-aggregate-put-word-line-2 c = search needs
 
 put-word-line-requires-2 : tie.Need-put-word-line-requires-2
-put-word-line-requires-2 c κs = omega (arith, bounded (c .before .before .before .before .before .before .before .before .before))
+put-word-line-requires-2 c κs =
+    let place = c .before .before .before .before .before .before .before .before .before in
+    omega (arith, bounded place)
 
 same-length : tie.Need-same-length
 same-length c = search needs
 
 returns : tie.Need-returns
 returns c =
-    rw (parts (c .before .before .before .before .before .before .before .before .before .before .before .before)) (wrote-then (wrote-then (c .before .before .before .before .before .before .before .before .before .before .before .put-word-line .ensures) (c .before .before .before .before .before .before .before .put-lines .ensures)) (c .before .before .put-word-line2 .ensures))
+    let at-put-word-line2 = c .before .before in
+    let at-put-lines = at-put-word-line2 .before .before .before .before .before in
+    let at-put-word-line = at-put-lines .before .before .before .before in
+    let place = at-put-word-line .before in
+    rw (parts place) (wrote-then (wrote-then (at-put-word-line .put-word-line .ensures) (at-put-lines .put-lines .ensures)) (at-put-word-line2 .put-word-line2 .ensures))
 
 pub put-listing-spec : {M : Type 1} → statement M
 put-listing-spec =

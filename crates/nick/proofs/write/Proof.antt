@@ -36,8 +36,7 @@ returns-3 c = c .registered3 .ensures ∙ rw (c .before .match .keys3)
 
 returns-4 : tie.Need-returns-4
 unfolding writtenRegisters writtenScan written registeredAs
-returns-4 c =
-    c .registered4 .ensures ∙ rw (c .before .match .keys4, clear-not-set (c .before .before .before .args .value / 128))
+returns-4 c = c .registered4 .ensures ∙ rw (c .before .match .keys4, clear-not-set (c .before .before .before .args .value / 128))
 
 returns-5 : tie.Need-returns-5
 unfolding written

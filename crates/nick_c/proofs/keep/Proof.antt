@@ -16,7 +16,10 @@ same-length : tie.Need-same-length
 same-length c = search needs
 
 returns-2 : tie.Need-returns-2
-returns-2 c = (omega arith, kept-done (c .before .before .before .before .before .before .args .refusal) (c .before .before .before .before .before .before .args .next) (c .before .before .before .before .before .before .args .state .now) _ (omega arith) (c .before .before .encode-state .ensures))
+returns-2 c =
+    let at-encode-state = c .before .before in
+    let start = at-encode-state .before .before .before .before in
+    (omega arith, kept-done (start .args .refusal) (start .args .next) (start .args .state .now) _ (omega arith) (at-encode-state .encode-state .ensures))
 
 pub keep-spec : {M : Type 1} → statement M
 keep-spec = tie.close (tie.spec returns encode-state-requires same-length returns-2)

@@ -20,9 +20,10 @@ packed-answer-requires c κs = search needs
 
 returns-2 : tie.Need-returns-2
 returns-2 c =
-    let a = c .before .before .before .before .before .before .args in
-    dot-done (a .state .now) (omega arith) (a .ram .now) (a .line) (a .dot) (a .external) (c .before .before .decode-state .result) (c .before .dot .result) (c .packed-answer .result)
-    (c .before .before .decode-state .ensures) (c .before .dot .ensures) (c .packed-answer .ensures)
+    let at-decode-state = c .before .before in
+    let a = at-decode-state .before .before .before .before .args in
+    dot-done (a .state .now) (omega arith) (a .ram .now) (a .line) (a .dot) (a .external) (at-decode-state .decode-state .result) (c .before .dot .result) (c .packed-answer .result)
+    (at-decode-state .decode-state .ensures) (c .before .dot .ensures) (c .packed-answer .ensures)
 
 pub nick-dot-spec : {M : Type 1} → statement M
 nick-dot-spec =

@@ -18,7 +18,11 @@ same-length : tie.Need-same-length
 same-length c = search needs
 
 returns-2 : tie.Need-returns-2
-returns-2 c = fresh-done (c .before .before .before .before .before .before .before .args .state .now) (omega arith) (c .before .before .before .before .fresh .result) _ (c .before .before .keep .result) (c .before .before .before .before .fresh .ensures) (c .before .before .keep .ensures .0) (c .before .before .keep .ensures .1)
+returns-2 c =
+    let at-keep = c .before .before in
+    let at-fresh = at-keep .before .before in
+    let start = at-fresh .before .before .before in
+    fresh-done (start .args .state .now) (omega arith) (at-fresh .fresh .result) _ (at-keep .keep .result) (at-fresh .fresh .ensures) (at-keep .keep .ensures .0) (at-keep .keep .ensures .1)
 
 pub nick-fresh-spec : {M : Type 1} → statement M
 nick-fresh-spec = tie.close (tie.spec returns fresh-requires keep-requires same-length returns-2)

@@ -17,18 +17,23 @@ list-requires c κs = search needs
 
 packed-listed-requires : tie.Need-packed-listed-requires
 packed-listed-requires c κs =
-    let a = c .before .before .before .before .before .before .before .before .before .before .args in
-    list-fits (c .before .before .before .before .before .decode-state .result .registers) (a .ram .now) (a .out .now) (c .before .before .list .result)
-    (omega arith) (λ i. c .before .before .before .before .before .before .before .before .shared-slice-known2 .given i .fits) (c .before .before .list .ensures .answer)
+    let at-list = c .before .before in
+    let at-decode-state = at-list .before .before .before in
+    let at-shared-slice-known2 = at-decode-state .before .before .before in
+    let a = at-shared-slice-known2 .before .before .args in
+    list-fits (at-decode-state .decode-state .result .registers) (a .ram .now) (a .out .now) (at-list .list .result)
+    (omega (arith, at-decode-state .decode-state .ok)) (λ i. at-shared-slice-known2 .shared-slice-known2 .given i .fits) (at-list .list .ensures .answer)
 
 same-length : tie.Need-same-length
 same-length c = search needs
 
 returns-2 : tie.Need-returns-2
 returns-2 c =
-    let a = c .before .before .before .before .before .before .before .before .before .before .before .args in
-    list-done (a .state .now) (omega arith) (a .ram .now) (a .out .now) (c .before .before .before .before .before .before .decode-state .result) (c .before .before .before .list .result) _ (c .packed-listed .result)
-    (c .before .before .before .before .before .before .decode-state .ensures) (c .before .before .before .list .ensures) (c .packed-listed .ensures)
+    let at-list = c .before .before .before in
+    let at-decode-state = at-list .before .before .before in
+    let a = at-decode-state .before .before .before .before .before .args in
+    list-done (a .state .now) (omega arith) (a .ram .now) (a .out .now) (at-decode-state .decode-state .result) (at-list .list .result) _ (c .packed-listed .result)
+    (at-decode-state .decode-state .ensures) (at-list .list .ensures) (c .packed-listed .ensures)
 
 pub nick-list-spec : {M : Type 1} → statement M
 nick-list-spec =

@@ -13,8 +13,10 @@ same-length c = search needs
 
 returns : tie.Need-returns
 returns c =
-    let a = c .before .before .before .before .before .before .before .before .before .before .args in
-    paint-refused (a .state .now) (c .before .before .before .before .if1 .taken) (a .ram .now) (a .height) (a .dots .now) (a .records .now) (a .external .now) _ (c .before .before .fill .ensures)
+    let at-fill = c .before .before in
+    let at-if1 = at-fill .before .before in
+    let a = at-if1 .before .before .before .before .before .before .args in
+    paint-refused (a .state .now) (at-if1 .if1 .taken) (a .ram .now) (a .height) (a .dots .now) (a .records .now) (a .external .now) _ (at-fill .fill .ensures)
 
 decode-state-requires : tie.Need-decode-state-requires
 decode-state-requires c κs = search needs
@@ -36,10 +38,13 @@ same-length-4 c = search needs
 
 returns-2 : tie.Need-returns-2
 returns-2 c =
-    let a = c .before .before .before .before .before .before .before .before .before .before .before .before .before .before .before .before .before .before .before .before .args in
+    let at-keep = c .before .before in
+    let at-paint-lines = at-keep .before .before .before .before .before .before .before in
+    let at-decode-state = at-paint-lines .before .before .before in
+    let a = at-decode-state .before .before .before .before .before .before .before .before .args in
     paint-done (a .state .now) (omega arith) (a .ram .now) (a .height) (a .dots .now) (a .records .now) (a .external .now)
-    (c .before .before .before .before .before .before .before .before .before .before .before .before .decode-state .result) (c .before .before .before .before .before .before .before .before .before .paint-lines .result) _ _ _ (c .before .before .keep .result)
-    (c .before .before .before .before .before .before .before .before .before .before .before .before .decode-state .ensures) (c .before .before .before .before .before .before .before .before .before .paint-lines .ensures) (c .before .before .keep .ensures .0) (c .before .before .keep .ensures .1)
+    (at-decode-state .decode-state .result) (at-paint-lines .paint-lines .result) _ _ _ (at-keep .keep .result)
+    (at-decode-state .decode-state .ensures) (at-paint-lines .paint-lines .ensures) (at-keep .keep .ensures .0) (at-keep .keep .ensures .1)
 
 pub nick-paint-spec : {M : Type 1} → statement M
 nick-paint-spec =

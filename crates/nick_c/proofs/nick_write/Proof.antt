@@ -22,8 +22,11 @@ same-length c = search needs
 
 returns-2 : tie.Need-returns-2
 returns-2 c =
-    let a = c .before .before .before .before .before .before .before .before .before .before .args in
-    write-done (a .state .now) (omega arith) (a .port) (a .value) (c .before .before .before .before .before .before .decode-state .result) (c .before .before .before .before .before .write .result) _ (c .before .before .keep .result) (c .before .before .before .before .before .before .decode-state .ensures) (c .before .before .before .before .before .write .ensures) (c .before .before .keep .ensures .0) (c .before .before .keep .ensures .1)
+    let at-keep = c .before .before in
+    let at-write = at-keep .before .before .before in
+    let at-decode-state = at-write .before in
+    let a = at-decode-state .before .before .before .before .args in
+    write-done (a .state .now) (omega arith) (a .port) (a .value) (at-decode-state .decode-state .result) (at-write .write .result) _ (at-keep .keep .result) (at-decode-state .decode-state .ensures) (at-write .write .ensures) (at-keep .keep .ensures .0) (at-keep .keep .ensures .1)
 
 pub nick-write-spec : {M : Type 1} → statement M
 nick-write-spec =

@@ -11,8 +11,9 @@ apply-writes-requires c κs = search needs
 
 returns : tie.Need-returns
 returns c =
-    let a = c .before .before .before .before .before .args in
-    let w = c .before .before .apply-writes in
+    let at-apply-writes = c .before .before in
+    let a = at-apply-writes .before .before .before .args in
+    let w = at-apply-writes .apply-writes in
     sym (writes-refused (a .writes .now) _ _ (w .result) (w .ensures) (λ z. omega arith))
 
 dot-requires : tie.Need-dot-requires
@@ -20,8 +21,9 @@ dot-requires c κs = search needs
 
 returns-2 : tie.Need-returns-2
 returns-2 c =
-    let a = c .before .before .before .before .before .before .args in
-    let w = c .before .before .before .apply-writes in
+    let at-apply-writes = c .before .before .before in
+    let a = at-apply-writes .before .before .before .args in
+    let w = at-apply-writes .apply-writes in
     c .dot .ensures ∙ sym (writes-accepted (a .writes .now) _ _ (w .result) (w .ensures) (omega arith))
 
 pub answer-spec : {M : Type 1} → statement M

@@ -23,9 +23,11 @@ print-colour-requires c κs = search needs
 
 print-sources-requires : tie.Need-print-sources-requires
 print-sources-requires c κs =
-    let a = c .before .before .before .before .before .before .before .args in
-    let shown : answered (c .before .before .before .before .answer .result) ≡ _ = ap answered (c .before .before .colour .given .1) in
-    full-after (a .writes .now) (a .ram .now) (a .line) (a .dot) (a .external) _ (sym shown ∙ c .before .before .before .before .answer .ensures)
+    let at-colour = c .before .before in
+    let at-answer = at-colour .before .before in
+    let a = at-answer .before .before .before .args in
+    let shown : answered (at-answer .answer .result) ≡ _ = ap answered (at-colour .colour .given .1) in
+    full-after (a .writes .now) (a .ram .now) (a .line) (a .dot) (a .external) _ (sym shown ∙ at-answer .answer .ensures)
 
 returns : tie.Need-returns
 returns c = search needs

@@ -11,8 +11,9 @@ apply-writes-requires c κs = search needs
 
 returns : tie.Need-returns
 returns c =
-    let a = c .before .before .before .before .before .before .args in
-    let w = c .before .before .apply-writes in
+    let at-apply-writes = c .before .before in
+    let a = at-apply-writes .before .before .before .before .args in
+    let w = at-apply-writes .apply-writes in
     record {
       answer = sym (writes-refused (a .writes .now) _ _ (w .result) (w .ensures) (λ z. omega arith));
       output = sym (writes-refused (a .writes .now) _ _ (w .result) (w .ensures) (λ z. omega arith));
@@ -26,9 +27,11 @@ same-length c = search needs
 
 returns-2 : tie.Need-returns-2
 returns-2 c =
-    let a = c .before .before .before .before .before .before .before .before .before .before .args in
-    let w = c .before .before .before .before .before .before .apply-writes in
-    let listed = c .before .before .list .ensures in
+    let at-list = c .before .before in
+    let at-apply-writes = at-list .before .before .before .before in
+    let a = at-apply-writes .before .before .before .before .args in
+    let w = at-apply-writes .apply-writes in
+    let listed = at-list .list .ensures in
     record {
       answer = listed .answer ∙ sym (writes-accepted (a .writes .now) _ _ (w .result) (w .ensures) (omega arith));
       output = listed .output ∙ sym (writes-accepted (a .writes .now) _ _ (w .result) (w .ensures) (omega arith));

@@ -13,8 +13,10 @@ enum-known-length c = search needs
 
 print-text-requires : tie.Need-print-text-requires
 print-text-requires c κs =
-    let a = c .before .before .before .before .before .before .before .before .before .before .before .args in
-    omega (arith, fits-after (a .writes .now) (a .ram .now) (a .text .now) _ _ _ (c .before .before .before .before .before .before .list .ensures) (c .before .before .length .given .1))
+    let at-length = c .before .before in
+    let at-list = at-length .before .before .before .before in
+    let a = at-list .before .before .before .before .before .args in
+    omega (arith, fits-after (a .writes .now) (a .ram .now) (a .text .now) _ _ _ (at-list .list .ensures) (at-length .length .given .1))
 
 enum-known-refusal : tie.Need-enum-known-refusal
 enum-known-refusal c = search needs

@@ -11,8 +11,9 @@ apply-writes-requires c κs = search needs
 
 returns : tie.Need-returns
 returns c =
-    let a = c .before .before .before .before .before .before .before .before .args in
-    let w = c .before .before .apply-writes in
+    let at-apply-writes = c .before .before in
+    let a = at-apply-writes .before .before .before .before .before .before .args in
+    let w = at-apply-writes .apply-writes in
     record {
       refusal = sym (writes-refused (a .writes .now) _ _ (w .result) (w .ensures) (λ z. omega arith));
       dots = sym (writes-refused (a .writes .now) _ _ (w .result) (w .ensures) (λ z. omega arith));
@@ -30,9 +31,11 @@ same-length-2 c = search needs
 
 returns-2 : tie.Need-returns-2
 returns-2 c =
-    let painted = c .before .before .before .before .paint-lines .ensures in
-    let w = c .before .before .before .before .before .before .before .before .before .apply-writes in
-    let a = c .before .before .before .before .before .before .before .before .before .before .before .before .before .before .before .args in
+    let at-paint-lines = c .before .before .before .before in
+    let at-apply-writes = at-paint-lines .before .before .before .before .before in
+    let painted = at-paint-lines .paint-lines .ensures in
+    let w = at-apply-writes .apply-writes in
+    let a = at-apply-writes .before .before .before .before .before .before .args in
     record {
       refusal = painted .refusal ∙ sym (writes-accepted (a .writes .now) _ _ (w .result) (w .ensures) (omega arith));
       dots = painted .dots ∙ sym (writes-accepted (a .writes .now) _ _ (w .result) (w .ensures) (omega arith));

@@ -66,8 +66,9 @@ same-length-2 c = search needs
 
 returns : tie.Need-returns
 returns c =
-    let painted = c .before .before .before .before .paint-scanline .ensures in
-    let to = c .before .before .before .before .before .before .before .before in
+    let at-paint-scanline = c .before .before .before .before in
+    let to = at-paint-scanline .before .before .before .before in
+    let painted = at-paint-scanline .paint-scanline .ensures in
     let from = to .before in
     let given = from .before .before .before .before .before in
     let a = given .args in

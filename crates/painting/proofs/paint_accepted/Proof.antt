@@ -25,11 +25,15 @@ loop-less c = search needs
 
 loop-again : tie.Need-loop-again Inv-loop μ-loop
 loop-again c =
-    let loop = c .before .before .before .before .before .before .before .before .loop in
-    let a = c .before .before .before .before .before .before .before .before .before .before .before .before .before .args in
+    let at-dots = c .before .before .before in
+    let at-next-line = at-dots .before in
+    let at-loop-test = at-next-line .before .before .before in
+    let at-loop = at-loop-test .before in
+    let loop = at-loop .loop in
+    let a = at-loop .before .before .before .before .before .args in
     passed-more (a .state) (a .ram .now) (a .external .now) (a .height) (a .dots .now) (a .records .now) (loop .inv)
-    (c .before .before .before .before .before .before .before .loop-test .taken) (c .before .before .before .dots .given) (c .before .records .given)
-    (c .before .before .before .before .next-line .ensures)
+    (at-loop-test .loop-test .taken) (at-dots .dots .given) (c .before .records .given)
+    (at-next-line .next-line .ensures)
 
 same-length : tie.Need-same-length Inv-loop μ-loop
 same-length c = search needs

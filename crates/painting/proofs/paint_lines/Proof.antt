@@ -21,15 +21,19 @@ same-length-2 c = search needs
 
 returns : tie.Need-returns
 returns c =
-    let a = c .before .before .before .before .before .before .before .before .before .before .before .before .args in
-    paints-refused (a .state) (a .ram .now) (a .height) (a .dots .now) (a .records .now) (a .external .now) (c .before .before .before .before .before .refusal .result) (c .before .before .before .before .before .refusal .ensures) _
-    (c .before .before .before .before .if1 .taken) (c .before .before .fill .ensures)
+    let at-fill = c .before .before in
+    let at-if1 = at-fill .before .before in
+    let at-refusal = at-if1 .before in
+    let a = at-refusal .before .before .before .before .before .before .before .args in
+    paints-refused (a .state) (a .ram .now) (a .height) (a .dots .now) (a .records .now) (a .external .now) (at-refusal .refusal .result) (at-refusal .refusal .ensures) _
+    (at-if1 .if1 .taken) (at-fill .fill .ensures)
 
 paint-accepted-requires : tie.Need-paint-accepted-requires
 paint-accepted-requires c κs =
-    let a = c .before .before .before .before .before .before .before .before .before .before .args in
-    let none : c .before .before .before .refusal .result ≡ 0 = omega arith in
-    accepted (a .state) (a .ram .now) (a .height) (a .dots .now) (a .records .now) (a .external .now) (sym (c .before .before .before .refusal .ensures) ∙ none)
+    let at-refusal = c .before .before .before in
+    let a = at-refusal .before .before .before .before .before .before .before .args in
+    let none : at-refusal .refusal .result ≡ 0 = omega arith in
+    accepted (a .state) (a .ram .now) (a .height) (a .dots .now) (a .records .now) (a .external .now) (sym (at-refusal .refusal .ensures) ∙ none)
 
 same-length-3 : tie.Need-same-length-3
 same-length-3 c = search needs
@@ -39,10 +43,12 @@ same-length-4 c = search needs
 
 returns-2 : tie.Need-returns-2
 returns-2 c =
-    let a = c .before .before .before .before .before .before .before .before .before .before .before .before .before .before .before .args in
-    let none : c .before .before .before .before .before .before .before .before .refusal .result ≡ 0 = omega arith in
-    paints-accepted (a .state) (a .ram .now) (a .height) (a .dots .now) (a .records .now) (a .external .now) (c .before .before .before .before .before .before .before .before .refusal .result) (c .before .before .before .before .before .before .before .before .refusal .ensures) _ _ _
-    none (c .before .before .before .before .paint-accepted .ensures)
+    let at-paint-accepted = c .before .before .before .before in
+    let at-refusal = at-paint-accepted .before .before .before .before in
+    let a = at-refusal .before .before .before .before .before .before .before .args in
+    let none : at-refusal .refusal .result ≡ 0 = omega arith in
+    paints-accepted (a .state) (a .ram .now) (a .height) (a .dots .now) (a .records .now) (a .external .now) (at-refusal .refusal .result) (at-refusal .refusal .ensures) _ _ _
+    none (at-paint-accepted .paint-accepted .ensures)
 
 pub paint-lines-spec : {M : Type 1} → statement M
 paint-lines-spec =

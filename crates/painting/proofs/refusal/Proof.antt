@@ -39,8 +39,9 @@ is-not-full-requires c κs = search needs
 
 returns-2 : tie.Need-returns-2
 returns-2 c =
-    let a = c .before .before .before .before .before .before .before .before .args in
-    refused-ram (a .state) (a .ram .now) (a .height) (a .dots .now) (a .records .now) (a .external .now) (formed (c .before .before))
+    let place = c .before .before in
+    let a = place .before .before .before .before .before .before .args in
+    refused-ram (a .state) (a .ram .now) (a .height) (a .dots .now) (a .records .now) (a .external .now) (formed place)
     (sym (c .before .is-not-full .ensures) ∙ c .if2 .taken)
 
 is-bad-height-requires : tie.Need-is-bad-height-requires
@@ -54,7 +55,8 @@ returns-3 c =
     (sym (c .before .is-bad-height .ensures) ∙ c .if3 .taken)
 
 is-bad-length-requires : tie.Need-is-bad-length-requires
-is-bad-length-requires c κs = (omega arith, height-most (c .before .before .before .before .before .before .before .before .before .before .args .height) (height c))
+is-bad-length-requires c κs =
+    (omega arith, height-most (c .before .before .before .before .before .before .before .before .before .before .args .height) (height c))
 
 returns-4 : tie.Need-returns-4
 returns-4 c =
@@ -65,7 +67,10 @@ returns-4 c =
     (sym (c .before .is-bad-length .ensures) ∙ c .if4 .taken)
 
 is-bad-length-requires-2 : tie.Need-is-bad-length-requires-2
-is-bad-length-requires-2 c κs = (omega arith, height-most (c .before .before .before .before .before .before .before .before .before .before .before .before .args .height) (height (c .before .before)))
+is-bad-length-requires-2 c κs =
+    let place = c .before .before in
+    let start = place .before .before .before .before .before .before .before .before .before .before in
+    (omega arith, height-most (start .args .height) (height place))
 
 returns-5 : tie.Need-returns-5
 returns-5 c =
@@ -77,7 +82,10 @@ returns-5 c =
     (sym (c .before .is-bad-length2 .ensures) ∙ c .if5 .taken)
 
 is-bad-external-requires : tie.Need-is-bad-external-requires
-is-bad-external-requires c κs = height-most (c .before .before .before .before .before .before .before .before .before .before .before .before .before .before .args .height) (height (c .before .before .before .before))
+is-bad-external-requires c κs =
+    let place = c .before .before .before .before in
+    let start = place .before .before .before .before .before .before .before .before .before .before in
+    height-most (start .args .height) (height place)
 
 returns-6 : tie.Need-returns-6
 returns-6 c =

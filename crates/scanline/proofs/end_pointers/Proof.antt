@@ -23,8 +23,9 @@ returns-2 c =
 
 returns-3 : tie.Need-returns-3
 returns-3 c =
-    let m = c .before .before .before .args .block .mb / 2 % 8 in
-    sym (line-still (c .before .before .before .args .at) m (omega arith) (rw (le-leb 3 m (omega arith), lt-leb m 5 (omega arith))))
+    let start = c .before .before .before in
+    let m = start .args .block .mb / 2 % 8 in
+    sym (line-still (start .args .at) m (omega arith) (rw (le-leb 3 m (omega arith), lt-leb m 5 (omega arith))))
 
 pub end-pointers-spec : {M : Type 1} → statement M
 end-pointers-spec = tie.close (tie.spec wrapping-add-u16-requires returns returns-2 returns-3)

@@ -32,8 +32,9 @@ same-length c = search needs
 
 returns : tie.Need-returns
 returns c =
-    let e = c .before .before .before .before .before .paint-slot .ensures in
-    let n = c .before .before .before .before .before .before .before .before .before .before .before .before .args .n in
+    let at-paint-slot = c .before .before .before .before .before in
+    let e = at-paint-slot .paint-slot .ensures in
+    let n = at-paint-slot .before .before .before .before .before .before .before .args .n in
     let size : 16 * n + 16 - 16 * n ≡ 16 = omega arith in
     record {
       dots = rw (size, e .dots);

@@ -12,15 +12,18 @@ is-loading-requires : tie.Need-is-loading-requires
 is-loading-requires c κs = search needs
 
 begin-requires : tie.Need-begin-requires
-begin-requires c κs = (c .before .before .before .before .before .before .before .pre .0 .0, c .before .before .before .before .before .before .before .pre .1 .number)
+begin-requires c κs =
+    let start = c .before .before .before .before .before .before .before in
+    (start .pre .0 .0, start .pre .1 .number)
 
 paint-slots-requires : tie.Need-paint-slots-requires
 paint-slots-requires c κs = search needs
 
 end-scan-requires : tie.Need-end-scan-requires
 end-scan-requires c κs =
-    let begin = c .before .before .before .before .before .begin in
-    let a = c .before .before .before .before .before .before .before .before .before .before .before .before .before .args in
+    let at-begin = c .before .before .before .before .before in
+    let begin = at-begin .begin in
+    let a = at-begin .before .before .before .before .before .before .before .before .args in
     let sc : begin .result .block .sc < 256 = omega (arith, begin .ok) in
     rw (begin .ensures) (begun-some (a .state .registers) (a .ram .now) (a .state .scan) (rw (begin .ensures) at sc))
 
@@ -40,7 +43,8 @@ slots-byte-requires : tie.Need-slots-byte-requires
 slots-byte-requires c κs = search needs
 
 put-record-requires : tie.Need-put-record-requires
-put-record-requires c κs = c .before .before .before .before .before .before .before .before .before .before .before .before .before .before .before .before .before .before .before .before .before .pre .0 .2
+put-record-requires c κs =
+    c .before .before .before .before .before .before .before .before .before .before .before .before .before .before .before .before .before .before .before .before .before .pre .0 .2
 
 same-length : tie.Need-same-length
 same-length c = search needs

@@ -22,11 +22,16 @@ same-length c = search needs
 
 returns : tie.Need-returns
 returns c =
-    let a = c .before .before .before .before .before .before .before .before .before .before .before .before .args in
+    let at-fill = c .before .before .before in
+    let at-unfetched = at-fill .before in
+    let at-if1 = at-unfetched .before .before in
+    let at-slots-byte = at-if1 .before in
+    let start = at-slots-byte .before .before .before .before .before in
+    let a = start .args in
     let ext = byteAt (a .external .now) in
-    let none : fetchingSlots (a .begun .block) ≡ 0 = sym (c .before .before .before .before .before .before .before .slots-byte .ensures) ∙ c .before .before .before .before .before .before .if1 .taken in
+    let none : fetchingSlots (a .begun .block) ≡ 0 = sym (at-slots-byte .slots-byte .ensures) ∙ at-if1 .if1 .taken in
     record {
-      dots = c .before .before .before .fill .ensures ∙ rw (c .before .before .before .before .unfetched .ensures) (idle-dots (a .registers) (a .ram .now) (a .begun) ext none _ (c .before .before .before .before .before .before .before .before .before .before .before .before .pre .1));
+      dots = at-fill .fill .ensures ∙ rw (at-unfetched .unfetched .ensures) (idle-dots (a .registers) (a .ram .now) (a .begun) ext none _ (start .pre .1));
       at = idle-at (a .registers) (a .ram .now) (a .begun) ext none;
       fetched = idle-fetches (a .registers) (a .ram .now) (a .begun) ext none;
       few = omega arith;

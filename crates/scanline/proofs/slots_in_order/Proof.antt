@@ -39,17 +39,20 @@ loop-less c = search needs
 
 loop-again : tie.Need-loop-again Inv-loop μ-loop
 loop-again c =
-    let n = c .before .before .before .before .before .loop .n in
-    let b = c .before .before .before .before .before .before .before .before .before .before .before .before .args .begun .block in
-    let p = c .before .before .before .before .before .before .before .before .before .before .before .before .args .begun .at in
-    let ram = c .before .before .before .before .before .before .before .before .before .before .before .before .args .ram .now in
-    let e = c .before .before .next-slot .ensures in
-    let inv = c .before .before .before .before .before .loop .inv in (
+    let at-next-slot = c .before .before in
+    let at-loop = at-next-slot .before .before .before in
+    let start = at-loop .before .before .before .before .before .before .before in
+    let n = at-loop .loop .n in
+    let b = start .args .begun .block in
+    let p = start .args .begun .at in
+    let ram = start .args .ram .now in
+    let e = at-next-slot .next-slot .ensures in
+    let inv = at-loop .loop .inv in (
       omega arith,
       c .before .out .given ∙ inv .1,
-      e .dots ∙ slot-more (c .before .before .before .before .before .before .before .before .before .before .before .before .args .registers) ram (c .before .before .before .before .before .before .before .before .before .before .before .before .args .begun) _ n (c .before .before .before .before .before .loop .slot .at) (c .before .before .before .before .before .before .before .before .before .before .before .before .args .out .now) (c .before .before .before .before .before .loop .out) (inv .2) (inv .3),
+      e .dots ∙ slot-more (start .args .registers) ram (start .args .begun) _ n (at-loop .loop .slot .at) (start .args .out .now) (at-loop .loop .out) (inv .2) (inv .3),
       rw (add-one n) (e .at ∙ ap (pastSlot (activeAt b n) b) (inv .3)),
-      e .fetched ∙ fetched-more ram b n p (c .before .before .before .before .before .loop .slot .at) (c .before .before .before .before .before .loop .slot .fetched) (inv .3) (inv .4),
+      e .fetched ∙ fetched-more ram b n p (at-loop .loop .slot .at) (at-loop .loop .slot .fetched) (inv .3) (inv .4),
       omega (arith, e .few),
     )
 
@@ -59,13 +62,14 @@ same-length c = search needs
 returns : tie.Need-returns Inv-loop μ-loop
 unfolding slotsEnd begunFetches
 returns c =
+    let start = c .before .before .before .before .before .before .before .before in
     let all : c .before .loop .n ≡ 46 = omega arith in
-    let begun = c .before .before .before .before .before .before .before .before .args .begun in
+    let begun = start .args .begun in
     let inv = c .before .loop .inv in
     record {
-      dots = slots-all (c .before .before .before .before .before .before .before .before .args .registers) (c .before .before .before .before .before .before .before .before .args .ram .now) begun _ (c .before .loop .n) (c .before .before .before .before .before .before .before .before .args .out .now) (c .before .loop .out) all (c .before .before .before .before .before .before .before .before .pre .2) (inv .2);
+      dots = slots-all (start .args .registers) (start .args .ram .now) begun _ (c .before .loop .n) (start .args .out .now) (c .before .loop .out) all (start .pre .2) (inv .2);
       at = inv .3 ∙ ap (λ (n : ℕ). pointersAfter (begun .block) n (begun .at)) all;
-      fetched = inv .4 ∙ ap (λ (n : ℕ). length (slotsFetched (c .before .before .before .before .before .before .before .before .args .ram .now) (begun .block) n (begun .at))) all;
+      fetched = inv .4 ∙ ap (λ (n : ℕ). length (slotsFetched (start .args .ram .now) (begun .block) n (begun .at))) all;
       few = omega arith;
     }
 

@@ -18,9 +18,12 @@ same-length c = search needs
 
 returns : tie.Need-returns
 returns c =
-    let a = c .before .before .before .before .before .before .before .before .before .before .args in
-    any-slot (a .registers) (a .ram .now) (a .block) (a .n) (a .at) (a .external .now) _ (c .before .before .before .before .before .fetch-slot .result)
-    (c .before .before .before .before .before .before .before .before .shared-slice-known2 .given (a .at .ld1) .fits) (c .before .before .before .before .before .fetch-slot .ensures) (c .before .before .before .show-slot .ensures)
+    let at-show-slot = c .before .before .before in
+    let at-fetch-slot = at-show-slot .before .before in
+    let at-shared-slice-known2 = at-fetch-slot .before .before .before in
+    let a = at-shared-slice-known2 .before .before .args in
+    any-slot (a .registers) (a .ram .now) (a .block) (a .n) (a .at) (a .external .now) _ (at-fetch-slot .fetch-slot .result)
+    (at-shared-slice-known2 .shared-slice-known2 .given (a .at .ld1) .fits) (at-fetch-slot .fetch-slot .ensures) (at-show-slot .show-slot .ensures)
 
 pub paint-slot-spec : {M : Type 1} → statement M
 paint-slot-spec =

@@ -21,8 +21,12 @@ same-length c = search needs
 returns : tie.Need-returns
 unfolding fetchedDots
 returns c =
-    let a = c .before .before .before .before .before .before .before .before .before .before .args in
-    rw (eq-eqb (a .fetched .count) 0 (c .before .before .before .before .before .if1 .taken)) (c .before .before .fill .ensures ∙ rw (c .before .before .before .before .before .before .before .before .before .before .pre .1, c .before .before .before .unfetched .ensures))
+    let at-fill = c .before .before in
+    let at-unfetched = at-fill .before in
+    let at-if1 = at-unfetched .before .before in
+    let start = at-if1 .before .before .before .before .before in
+    let a = start .args in
+    rw (eq-eqb (a .fetched .count) 0 (at-if1 .if1 .taken)) (at-fill .fill .ensures ∙ rw (start .pre .1, at-unfetched .unfetched .ensures))
 
 same-length-2 : tie.Need-same-length-2
 same-length-2 c = search needs
@@ -30,8 +34,10 @@ same-length-2 c = search needs
 returns-2 : tie.Need-returns-2
 unfolding fetchedDots
 returns-2 c =
-    let a = c .before .before .before .before .before .before .before .before .before .args in
-    rw (ne-eqb (a .fetched .count) 0 (c .before .before .before .before .if1 .left)) (c .before .before .show .ensures)
+    let at-show = c .before .before in
+    let at-if1 = at-show .before .before in
+    let a = at-if1 .before .before .before .before .before .args in
+    rw (ne-eqb (a .fetched .count) 0 (at-if1 .if1 .left)) (at-show .show .ensures)
 
 pub show-slot-spec : {M : Type 1} → statement M
 show-slot-spec =

@@ -48,7 +48,9 @@ put-decimal-put-byte-requires : (t : ℕ) → put-decimal-lts.Need-put-byte-requ
   put-decimal-below t,
   put-decimal.Post,
 ) (put-decimal-at t) put-decimal.Post
-put-decimal-put-byte-requires t c κs = rw (decimal-one (c .before .before .before .args .n) (omega arith)) at (c .before .before .before .pre .1)
+put-decimal-put-byte-requires t c κs =
+    let start = c .before .before .before in
+    rw (decimal-one (start .args .n) (omega arith)) at (start .pre .1)
 
 put-decimal-same-length : (t : ℕ) → put-decimal-lts.Need-same-length (
   put-byte-reads.Asked,
@@ -64,7 +66,10 @@ put-decimal-returns : (t : ℕ) → put-decimal-lts.Need-returns (
   put-decimal-below t,
   put-decimal.Post,
 ) (put-decimal-at t) put-decimal.Post
-put-decimal-returns t c = rw (decimal-one (c .before .before .before .before .before .before .args .n) (omega arith)) (c .before .before .put-byte .ensures)
+put-decimal-returns t c =
+    let at-put-byte = c .before .before in
+    let start = at-put-byte .before .before .before .before in
+    rw (decimal-one (start .args .n) (omega arith)) (at-put-byte .put-byte .ensures)
 
 put-decimal-put-decimal-requires : (t : ℕ) → put-decimal-lts.Need-put-decimal-requires (
   put-byte-reads.Asked,
@@ -73,9 +78,10 @@ put-decimal-put-decimal-requires : (t : ℕ) → put-decimal-lts.Need-put-decima
   put-decimal.Post,
 ) (put-decimal-at t) put-decimal.Post
 put-decimal-put-decimal-requires t c κs =
-    let n = c .before .before .before .args .n in (
-      omega (arith, c .before .before .before .pre .0),
-      room-front (decimal (n / 10)) ((48 + n % 10) ∷ []) (c .before .before .before .args .at) (rw (decimal-more n (omega arith)) at (c .before .before .before .pre .1)),
+    let start = c .before .before .before in
+    let n = start .args .n in (
+      omega (arith, start .pre .0),
+      room-front (decimal (n / 10)) ((48 + n % 10) ∷ []) (start .args .at) (rw (decimal-more n (omega arith)) at (start .pre .1)),
     )
 
 put-decimal-cast-put-byte-2 : (t : ℕ) → put-decimal-lts.Need-cast-put-byte-2 (
@@ -101,8 +107,10 @@ put-decimal-put-byte-requires-2 : (t : ℕ) → put-decimal-lts.Need-put-byte-re
   put-decimal.Post,
 ) (put-decimal-at t) put-decimal.Post
 put-decimal-put-byte-requires-2 t c κs =
-    let n = c .before .before .before .before .before .before .before .args .n in
-    room-next ((48 + n % 10) ∷ []) (c .before .before .before .put-decimal .ensures) (rw (decimal-more n (omega arith)) at (c .before .before .before .before .before .before .before .pre .1))
+    let at-put-decimal = c .before .before .before in
+    let start = at-put-decimal .before .before .before .before in
+    let n = start .args .n in
+    room-next ((48 + n % 10) ∷ []) (at-put-decimal .put-decimal .ensures) (rw (decimal-more n (omega arith)) at (start .pre .1))
 
 put-decimal-same-length-2 : (t : ℕ) → put-decimal-lts.Need-same-length-2 (
   put-byte-reads.Asked,
@@ -119,7 +127,10 @@ put-decimal-returns-2 : (t : ℕ) → put-decimal-lts.Need-returns-2 (
   put-decimal.Post,
 ) (put-decimal-at t) put-decimal.Post
 put-decimal-returns-2 t c =
-    rw (decimal-more (c .before .before .before .before .before .before .before .before .before .before .args .n) (omega arith)) (wrote-then (c .before .before .before .before .before .before .put-decimal .ensures) (c .before .before .put-byte2 .ensures))
+    let at-put-byte2 = c .before .before in
+    let at-put-decimal = at-put-byte2 .before .before .before .before in
+    let start = at-put-decimal .before .before .before .before in
+    rw (decimal-more (start .args .n) (omega arith)) (wrote-then (at-put-decimal .put-decimal .ensures) (at-put-byte2 .put-byte2 .ensures))
 
 pub +put-decimal-spec : {M : Type 1} → statement M
 +put-decimal-spec = close μ-put-decimal λ t. put-decimal-lts.spec (

@@ -24,7 +24,10 @@ shared-slice-read-put-byte c = search needs
 
 put-byte-requires : tie.Need-put-byte-requires Inv-loop μ-loop
 put-byte-requires c κs =
-    turn-room (λ xs. xs) (λ n. n ∷ []) (λ xs ys. refl) (λ n. refl) (c .before .before .before .before .before .before .args .bytes .now) (c .before .before .before .loop .i) (c .before .before .loop-test .taken) (c .before .before .before .loop .inv .1) (c .before .before .before .before .before .before .pre)
+    let at-loop-test = c .before .before in
+    let at-loop = at-loop-test .before in
+    let start = at-loop .before .before .before in
+    turn-room (λ xs. xs) (λ n. n ∷ []) (λ xs ys. refl) (λ n. refl) (start .args .bytes .now) (at-loop .loop .i) (at-loop-test .loop-test .taken) (at-loop .loop .inv .1) (start .pre)
 
 add-i : tie.Need-add-i Inv-loop μ-loop
 add-i c = search needs
@@ -33,10 +36,14 @@ loop-less : tie.Need-loop-less Inv-loop μ-loop
 loop-less c = search needs
 
 loop-again : tie.Need-loop-again Inv-loop μ-loop
-loop-again c = (
-  omega arith,
-  turn (λ xs. xs) (λ n. n ∷ []) (λ xs ys. refl) (λ n. refl) (c .before .before .before .before .before .before .before .before .before .args .bytes .now) (c .before .before .before .before .before .before .loop .i) (c .before .before .before .before .before .loop-test .taken) (c .before .before .before .before .before .before .loop .inv .1) (c .before .before .put-byte .ensures),
-)
+loop-again c =
+    let at-put-byte = c .before .before in
+    let at-loop-test = at-put-byte .before .before .before in
+    let at-loop = at-loop-test .before in
+    let start = at-loop .before .before .before in (
+      omega arith,
+      turn (λ xs. xs) (λ n. n ∷ []) (λ xs ys. refl) (λ n. refl) (start .args .bytes .now) (at-loop .loop .i) (at-loop-test .loop-test .taken) (at-loop .loop .inv .1) (at-put-byte .put-byte .ensures),
+    )
 
 same-length : tie.Need-same-length Inv-loop μ-loop
 same-length c = wrote-kept (c .before .loop .inv .1)

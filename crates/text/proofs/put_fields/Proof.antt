@@ -27,7 +27,10 @@ shared-slice-read-put-field c = search needs
 
 put-field-requires : tie.Need-put-field-requires Inv-loop μ-loop
 put-field-requires c κs =
-    turn-room tabbed field tabbed-append one-field (c .before .before .before .before .before .before .args .numbers .now) (c .before .before .before .loop .i) (c .before .before .loop-test .taken) (c .before .before .before .loop .inv .1) (c .before .before .before .before .before .before .pre)
+    let at-loop-test = c .before .before in
+    let at-loop = at-loop-test .before in
+    let start = at-loop .before .before .before in
+    turn-room tabbed field tabbed-append one-field (start .args .numbers .now) (at-loop .loop .i) (at-loop-test .loop-test .taken) (at-loop .loop .inv .1) (start .pre)
 
 add-i : tie.Need-add-i Inv-loop μ-loop
 add-i c = search needs
@@ -36,10 +39,14 @@ loop-less : tie.Need-loop-less Inv-loop μ-loop
 loop-less c = search needs
 
 loop-again : tie.Need-loop-again Inv-loop μ-loop
-loop-again c = (
-  omega arith,
-  turn tabbed field tabbed-append one-field (c .before .before .before .before .before .before .before .before .before .args .numbers .now) (c .before .before .before .before .before .before .loop .i) (c .before .before .before .before .before .loop-test .taken) (c .before .before .before .before .before .before .loop .inv .1) (c .before .before .put-field .ensures),
-)
+loop-again c =
+    let at-put-field = c .before .before in
+    let at-loop-test = at-put-field .before .before .before in
+    let at-loop = at-loop-test .before in
+    let start = at-loop .before .before .before in (
+      omega arith,
+      turn tabbed field tabbed-append one-field (start .args .numbers .now) (at-loop .loop .i) (at-loop-test .loop-test .taken) (at-loop .loop .inv .1) (at-put-field .put-field .ensures),
+    )
 
 same-length : tie.Need-same-length Inv-loop μ-loop
 same-length c = wrote-kept (c .before .loop .inv .1)

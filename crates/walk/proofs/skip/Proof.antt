@@ -16,19 +16,35 @@ lines-of-ld1-requires : tie.Need-lines-of-ld1-requires
 lines-of-ld1-requires c κs = search needs
 
 mul-ld1 : tie.Need-mul-ld1
-mul-ld1 c = omega (arith, mul-le-mul (c .before .before .before .steps-of .ensures .ld1) (c .before .before .active-before .ensures .1))
+mul-ld1 c =
+    let at-active-before = c .before .before in
+    let at-steps-of = at-active-before .before in
+    omega (arith, mul-le-mul (at-steps-of .steps-of .ensures .ld1) (at-active-before .active-before .ensures .1))
 
 mul-ld1-2 : tie.Need-mul-ld1-2
-mul-ld1-2 c = omega (arith, mul-le-mul (c .before .lines-of-ld1 .ensures .1) (mul-le-mul (c .before .before .before .steps-of .ensures .ld1) (c .before .before .active-before .ensures .1)))
+mul-ld1-2 c =
+    let at-active-before = c .before .before in
+    let at-steps-of = at-active-before .before in
+    omega (arith, mul-le-mul (c .before .lines-of-ld1 .ensures .1) (mul-le-mul (at-steps-of .steps-of .ensures .ld1) (at-active-before .active-before .ensures .1)))
 
 mul-ld2 : tie.Need-mul-ld2
-mul-ld2 c = omega (arith, mul-le-mul (c .before .before .before .before .steps-of .ensures .ld2) (c .before .before .before .active-before .ensures .1))
+mul-ld2 c =
+    let at-active-before = c .before .before .before in
+    let at-steps-of = at-active-before .before in
+    omega (arith, mul-le-mul (at-steps-of .steps-of .ensures .ld2) (at-active-before .active-before .ensures .1))
 
 add-ld2 : tie.Need-add-ld2
-add-ld2 c = omega (arith, mul-le-mul (c .before .before .before .before .before .steps-of .ensures .ld2) (c .before .before .before .before .active-before .ensures .1))
+add-ld2 c =
+    let at-active-before = c .before .before .before .before in
+    let at-steps-of = at-active-before .before in
+    omega (arith, mul-le-mul (at-steps-of .steps-of .ensures .ld2) (at-active-before .active-before .ensures .1))
 
 mul-ld2-2 : tie.Need-mul-ld2-2
-mul-ld2-2 c = omega (arith, mul-le-mul (c .before .before .before .before .before .before .before .before .pre .0) (add-le-add (mul-le-mul (c .before .before .before .before .before .steps-of .ensures .ld2) (c .before .before .before .before .active-before .ensures .1)) (c .before .before .before .before .before .steps-of .ensures .line)))
+mul-ld2-2 c =
+    let at-active-before = c .before .before .before .before in
+    let at-steps-of = at-active-before .before in
+    let start = at-steps-of .before .before .before in
+    omega (arith, mul-le-mul (start .pre .0) (add-le-add (mul-le-mul (at-steps-of .steps-of .ensures .ld2) (at-active-before .active-before .ensures .1)) (at-steps-of .steps-of .ensures .line)))
 
 advance-requires : tie.Need-advance-requires
 advance-requires c κs = search needs
@@ -38,7 +54,11 @@ sub-t12 c = search needs
 
 returns : tie.Need-returns
 unfolding skipped
-returns c = rw (c .before .advance .ensures, c .before .before .before .before .before .before .lines-of-ld1 .ensures .0, c .before .before .before .before .before .before .before .before .steps-of .ensures .same, c .before .before .before .before .before .before .before .active-before .ensures .0)
+returns c =
+    let at-lines-of-ld1 = c .before .before .before .before .before .before in
+    let at-active-before = at-lines-of-ld1 .before in
+    let at-steps-of = at-active-before .before in
+    rw (c .before .advance .ensures, at-lines-of-ld1 .lines-of-ld1 .ensures .0, at-steps-of .steps-of .ensures .same, at-active-before .active-before .ensures .0)
 
 pub skip-spec : {M : Type 1} → statement M
 skip-spec =

@@ -34,8 +34,9 @@ cast-t8 c = search needs
 
 returns : tie.Need-returns
 returns c =
-    let a = c .before .before .before .before .args in
-    let begin = c .before .before .begin in
+    let at-begin = c .before .before in
+    let a = at-begin .before .before .args in
+    let begin = at-begin .begin in
     let on = inside (c .before) in
     let pointers : SixteenBits (begin .result .at) = record { ld1 = omega (arith, begin .ok); ld2 = omega (arith, begin .ok) } in
     record {

@@ -31,9 +31,11 @@ loop-less c = omega (arith, c .before .before .turn .ensures .some)
 
 loop-again : tie.Need-loop-again Inv-loop μ-loop
 loop-again c =
-    let t = c .before .before .turn in
-    let l = c .before .before .before .before .loop in
-    let a = c .before .before .before .before .before .before .args in
+    let at-turn = c .before .before in
+    let at-loop = at-turn .before .before in
+    let t = at-turn .turn in
+    let l = at-loop .loop in
+    let a = at-loop .before .before .args in
     (omega (arith, t .ensures .most), reached-more (a .registers) (a .ram .now) (a .scan) (l .at) (t .result .scan) (l .done) (t .result .lines) (l .inv .1) (t .ensures .reached))
 
 returns : tie.Need-returns Inv-loop μ-loop

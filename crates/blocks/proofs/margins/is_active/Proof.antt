@@ -19,7 +19,9 @@ right-margin-requires c κs = search needs
 
 returns : tie.Need-returns
 returns c =
-    rw (← c .before .before .left-margin .ensures .0, ← c .right-margin .ensures .0, le-leb (c .before .before .left-margin .result) (8 + c .before .before .before .args .slot) (c .before .if1 .taken))
+    let at-left-margin = c .before .before in
+    let start = at-left-margin .before in
+    rw (← at-left-margin .left-margin .ensures .0, ← c .right-margin .ensures .0, le-leb (at-left-margin .left-margin .result) (8 + start .args .slot) (c .before .if1 .taken))
 
 returns-2 : tie.Need-returns-2
 returns-2 c =

@@ -29,7 +29,11 @@ digit-requires : tie.Need-digit-requires Inv-loop μ-loop
 digit-requires c κs = search needs
 
 returns-2 : tie.Need-returns-2 Inv-loop μ-loop
-returns-2 c = none-spoilt (c .before .before .before .before .before .before .before .args .text .now) (c .before .before .before .before .loop .i) (c .before .before .before .loop-test .taken) (rw (← c .before .digit .ensures .0) (c .if2 .taken))
+returns-2 c =
+    let at-loop-test = c .before .before .before in
+    let at-loop = at-loop-test .before in
+    let start = at-loop .before .before .before in
+    none-spoilt (start .args .text .now) (at-loop .loop .i) (at-loop-test .loop-test .taken) (rw (← c .before .digit .ensures .0) (c .if2 .taken))
 
 with-digit-requires : tie.Need-with-digit-requires Inv-loop μ-loop
 with-digit-requires c κs = search needs
@@ -42,17 +46,20 @@ loop-less c = search needs
 
 loop-again : tie.Need-loop-again Inv-loop μ-loop
 loop-again c =
-    let text = c .before .before .before .before .before .before .before .before .args .text .now in
-    let i = c .before .before .before .before .before .loop .i in (
+    let at-digit = c .before .before in
+    let at-loop = at-digit .before .before .before in
+    let text = at-loop .before .before .before .args .text .now in
+    let i = at-loop .loop .i in (
       omega arith,
-      digits-more text i (c .before .before .before .before .before .loop .inv .1) (rw (← c .before .before .digit .ensures .0) (c .before .if2 .left)),
-      c .with-digit .ensures ∙ rw (c .before .before .digit .ensures .0) (value-more text i (c .before .before .before .before .before .loop .value) (c .before .before .before .before .before .loop .inv .2)),
+      digits-more text i (at-loop .loop .inv .1) (rw (← at-digit .digit .ensures .0) (c .before .if2 .left)),
+      c .with-digit .ensures ∙ rw (at-digit .digit .ensures .0) (value-more text i (at-loop .loop .value) (at-loop .loop .inv .2)),
     )
 
 returns-3 : tie.Need-returns-3 Inv-loop μ-loop
 returns-3 c =
-    let text = c .before .before .before .before .args .text .now in
-    some-number text (c .before .loop .i) (c .before .loop .value) (omega arith) (c .before .before .if1 .left) (c .before .loop .inv .1) (c .before .loop .inv .2)
+    let at-if1 = c .before .before in
+    let text = at-if1 .before .before .args .text .now in
+    some-number text (c .before .loop .i) (c .before .loop .value) (omega arith) (at-if1 .if1 .left) (c .before .loop .inv .1) (c .before .loop .inv .2)
 
 pub number-of-spec : {M : Type 1} → statement M
 number-of-spec =

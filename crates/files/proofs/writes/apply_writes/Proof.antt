@@ -48,10 +48,11 @@ loop-less c = search needs
 
 loop-again : tie.Need-loop-again Inv-loop μ-loop
 loop-again c =
-    let b = c .before .before .before .before .before .before .before .args .bytes .now in
-    let n = c .before .before .before .before .loop .n in (
+    let at-loop = c .before .before .before .before in
+    let b = at-loop .before .before .before .args .bytes .now in
+    let n = at-loop .loop .n in (
       omega arith,
-      rw (add-one n) (c .write-next .ensures ∙ ap (λ (w : Written). writtenNext w (getD b (2 * n) 0) (getD b (2 * n + 1) 0)) (c .before .before .before .before .loop .inv .1)),
+      rw (add-one n) (c .write-next .ensures ∙ ap (λ (w : Written). writtenNext w (getD b (2 * n) 0) (getD b (2 * n + 1) 0)) (at-loop .loop .inv .1)),
     )
 
 returns : tie.Need-returns Inv-loop μ-loop

@@ -15,11 +15,17 @@ returns-2 c = rw (ne-eqb (c .before .before .args .a) 0 (c .before .if1 .left), 
 
 returns-3 : tie.Need-returns-3
 unfolding given
-returns-3 c = rw (ne-eqb (c .before .before .before .args .a) 0 (c .before .before .if1 .left), ne-eqb (c .before .before .before .args .b) 0 (c .before .if2 .left)) (omega arith)
+returns-3 c =
+    let at-if1 = c .before .before in
+    let start = at-if1 .before in
+    rw (ne-eqb (start .args .a) 0 (at-if1 .if1 .left), ne-eqb (start .args .b) 0 (c .before .if2 .left)) (omega arith)
 
 returns-4 : tie.Need-returns-4
 unfolding given
-returns-4 c = rw (ne-eqb (c .before .before .before .args .a) 0 (c .before .before .if1 .left), ne-eqb (c .before .before .before .args .b) 0 (c .before .if2 .left)) (omega arith)
+returns-4 c =
+    let at-if1 = c .before .before in
+    let start = at-if1 .before in
+    rw (ne-eqb (start .args .a) 0 (at-if1 .if1 .left), ne-eqb (start .args .b) 0 (c .before .if2 .left)) (omega arith)
 
 pub given-spec : {M : Type 1} → statement M
 given-spec = tie.close (tie.spec returns returns-2 returns-3 returns-4)

@@ -76,8 +76,15 @@ wide-requires-8 c κs = search needs
 
 returns : tie.Need-returns
 returns c =
-    let block = c .before .before .before .before .before .before .before .before .before .before .before .before .before .before .args .block in
-    numbers-are block _ (eight-places (block .col) (length-unmapped ℕ (block .col) 8 (c .before .before .before .before .before .before .before .before .before .before .before .before .before .before .good .0 .1 .1 .1 .1 .1 .1 .1 .0 .1 .0 .1)) (c .before .before .before .before .before .before .before .wide .ensures) (c .before .before .before .before .before .before .wide2 .ensures) (c .before .before .before .before .before .wide3 .ensures) (c .before .before .before .before .wide4 .ensures) (c .before .before .before .wide5 .ensures) (c .before .before .wide6 .ensures) (c .before .wide7 .ensures) (c .wide8 .ensures))
+    let at-wide6 = c .before .before in
+    let at-wide5 = at-wide6 .before in
+    let at-wide4 = at-wide5 .before in
+    let at-wide3 = at-wide4 .before in
+    let at-wide2 = at-wide3 .before in
+    let at-wide = at-wide2 .before in
+    let start = at-wide .before .before .before .before .before .before .before in
+    let block = start .args .block in
+    numbers-are block _ (eight-places (block .col) (length-unmapped ℕ (block .col) 8 (start .good .0 .1 .1 .1 .1 .1 .1 .1 .0 .1 .0 .1)) (at-wide .wide .ensures) (at-wide2 .wide2 .ensures) (at-wide3 .wide3 .ensures) (at-wide4 .wide4 .ensures) (at-wide5 .wide5 .ensures) (at-wide6 .wide6 .ensures) (c .before .wide7 .ensures) (c .wide8 .ensures))
 
 pub numbers-after-name-spec : {M : Type 1} → statement M
 numbers-after-name-spec =

@@ -24,16 +24,23 @@ part-put-bytes-start : tie.Need-part-put-bytes-start
 part-put-bytes-start c = search needs
 
 part-put-bytes-end : tie.Need-part-put-bytes-end
-part-put-bytes-end c = omega (arith, name-length (c .before .before .before .args .mode) (c .before .before .before .pre .0))
+part-put-bytes-end c =
+    let start = c .before .before .before in
+    omega (arith, name-length (start .args .mode) (start .pre .0))
 
 put-bytes-requires : tie.Need-put-bytes-requires
-put-bytes-requires c κs = name-room (c .before .before .before .before .args .at) (c .before .before .before .before .args .mode) (c .before .before .before .before .pre .0) (c .before .before .before .before .pre .1)
+put-bytes-requires c κs =
+    let start = c .before .before .before .before in
+    name-room (start .args .at) (start .args .mode) (start .pre .0) (start .pre .1)
 
 same-length : tie.Need-same-length
 same-length c = search needs
 
 returns : tie.Need-returns
-returns c = name-wrote (c .before .before .before .before .before .before .before .args .mode) (c .before .before .before .before .before .before .before .pre .0) (c .before .before .put-bytes .ensures)
+returns c =
+    let at-put-bytes = c .before .before in
+    let start = at-put-bytes .before .before .before .before .before in
+    name-wrote (start .args .mode) (start .pre .0) (at-put-bytes .put-bytes .ensures)
 
 pub put-name-spec : {M : Type 1} → statement M
 put-name-spec =

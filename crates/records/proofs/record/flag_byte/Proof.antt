@@ -61,15 +61,20 @@ add-result-5 c = search needs
 returns : tie.Need-returns
 unfolding flags
 returns c =
-    let m = c .before .before .before .before .before .before .before .before .before .args .block .mb / 2 % 8 in
+    let at-bit4 = c .before .before in
+    let at-bit3 = at-bit4 .before in
+    let at-bit2 = at-bit3 .before in
+    let at-falls = at-bit2 .before in
+    let at-bit = at-falls .before in
+    let m = at-bit .before .before .before .args .block .mb / 2 % 8 in
     rw (
       syncs-zero m (omega arith),
       unused-six m (omega arith),
-      c .before .before .before .before .before .before .bit .ensures .0,
-      c .before .before .before .before .bit2 .ensures .0,
-      c .before .before .before .before .before .falls .ensures,
-      c .before .before .before .bit3 .ensures .0,
-      c .before .before .bit4 .ensures .0,
+      at-bit .bit .ensures .0,
+      at-bit2 .bit2 .ensures .0,
+      at-falls .falls .ensures,
+      at-bit3 .bit3 .ensures .0,
+      at-bit4 .bit4 .ensures .0,
       c .before .bit5 .ensures .0,
       c .bit6 .ensures .0,
     )

@@ -27,9 +27,10 @@ cast-result c = search needs
 
 returns-3 : tie.Need-returns-3
 returns-3 c =
-    let b = c .before .before .before .before .args .block in
+    let at-if1 = c .before .before in
+    let b = at-if1 .before .before .args .block in
     let m = b .mb / 2 % 8 in
-    rw (fetches-but m (omega arith), ne-eqb m 0 (c .before .before .if1 .left), ne-eqb m 6 (c .before .if2 .left)) (c .active-before .ensures .0 ∙ active-all b)
+    rw (fetches-but m (omega arith), ne-eqb m 0 (at-if1 .if1 .left), ne-eqb m 6 (c .before .if2 .left)) (c .active-before .ensures .0 ∙ active-all b)
 
 pub slots-byte-spec : {M : Type 1} → statement M
 slots-byte-spec = tie.close (tie.spec returns returns-2 active-before-requires cast-result returns-3)

@@ -41,25 +41,28 @@ loop-less c = search needs
 
 loop-again : tie.Need-loop-again Inv-loop μ-loop
 loop-again c =
-    let s = c .before .before .loop .sync in
-    let slot = c .before .before .loop .slot in
-    let b = c .before .before .before .before .before .args .block in
-    let on : c .pass-slot .result .on ≡ syncAfter b (suc slot) (c .before .before .before .before .before .args .on) =
-    c .pass-slot .ensures .on ∙ ap (syncAt b slot) (c .before .before .loop .inv .1) in (
+    let at-loop = c .before .before in
+    let start = at-loop .before .before .before in
+    let s = at-loop .loop .sync in
+    let slot = at-loop .loop .slot in
+    let b = start .args .block in
+    let on : c .pass-slot .result .on ≡ syncAfter b (suc slot) (start .args .on) =
+    c .pass-slot .ensures .on ∙ ap (syncAt b slot) (at-loop .loop .inv .1) in (
       omega arith,
       rw (add-one slot) on,
-      rw (add-one slot, ← (c .before .before .loop .inv .2), ← (c .before .before .loop .inv .1)) (c .pass-slot .ensures .count),
+      rw (add-one slot, ← (at-loop .loop .inv .2), ← (at-loop .loop .inv .1)) (c .pass-slot .ensures .count),
       rw (c .pass-slot .ensures .count) (omega (arith, number-le (syncAt b slot (s .on)))),
     )
 
 returns-2 : tie.Need-returns-2 Inv-loop μ-loop
 unfolding lineSync lineSyncCount
 returns-2 c =
-    let m = c .before .before .before .before .args .block .mb / 2 % 8 in
+    let start = c .before .before .before .before in
+    let m = start .args .block .mb / 2 % 8 in
     let all : c .before .loop .slot ≡ 57 = omega arith in
     record {
-      level = rw (syncs-zero m (omega arith), eq-eqb m 0 (omega arith)) (c .before .loop .inv .1 ∙ ap (λ (n : ℕ). syncAfter (c .before .before .before .before .args .block) n (c .before .before .before .before .args .on)) all);
-      slots = rw (syncs-zero m (omega arith), eq-eqb m 0 (omega arith)) (c .before .loop .inv .2 ∙ ap (λ (n : ℕ). syncCount (c .before .before .before .before .args .block) n (c .before .before .before .before .args .on)) all);
+      level = rw (syncs-zero m (omega arith), eq-eqb m 0 (omega arith)) (c .before .loop .inv .1 ∙ ap (λ (n : ℕ). syncAfter (start .args .block) n (start .args .on)) all);
+      slots = rw (syncs-zero m (omega arith), eq-eqb m 0 (omega arith)) (c .before .loop .inv .2 ∙ ap (λ (n : ℕ). syncCount (start .args .block) n (start .args .on)) all);
     }
 
 pub sync-line-spec : {M : Type 1} → statement M

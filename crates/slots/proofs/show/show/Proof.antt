@@ -6,7 +6,9 @@ use Rattle.slots.proofs.show.show.Statement.{statement}
 use Rattle.slots.proofs.show.show.Tie as tie
 
 show-plain-requires : tie.Need-show-plain-requires
-show-plain-requires c κs = (rw (c .before .before .before .before .before .pre .0) (palette-length (c .before .before .before .before .before .args .registers) (c .before .before .before .before .before .args .block)), c .before .before .before .before .before .pre .1)
+show-plain-requires c κs =
+    let start = c .before .before .before .before .before in
+    (rw (start .pre .0) (palette-length (start .args .registers) (start .args .block)), start .pre .1)
 
 show-mixed-requires : tie.Need-show-mixed-requires
 show-mixed-requires c κs = search needs
@@ -16,8 +18,11 @@ same-length c = search needs
 
 returns : tie.Need-returns
 returns c =
-    let a = c .before .before .before .before .before .before .before .before .args in
-    c .before .before .show-plain .ensures ∙ plain-mixed (a .registers) (a .block) (a .fetched) (a .palette .now) (a .external .now) (a .from) (c .before .before .before .before .before .before .before .before .pre .0) (c .before .before .before .before .if1 .taken)
+    let at-show-plain = c .before .before in
+    let at-if1 = at-show-plain .before .before in
+    let start = at-if1 .before .before .before .before in
+    let a = start .args in
+    at-show-plain .show-plain .ensures ∙ plain-mixed (a .registers) (a .block) (a .fetched) (a .palette .now) (a .external .now) (a .from) (start .pre .0) (at-if1 .if1 .taken)
 
 same-length-2 : tie.Need-same-length-2
 same-length-2 c = search needs

@@ -15,7 +15,9 @@ external-at-requires : tie.Need-external-at-requires
 external-at-requires c κs = search needs
 
 mixed-colour-requires : tie.Need-mixed-colour-requires
-mixed-colour-requires c κs = rw (c .before .pixel-at .ensures) (slot-below (c .before .before .before .before .args .fetched) (c .before .before .before .before .args .j))
+mixed-colour-requires c κs =
+    let start = c .before .before .before .before in
+    rw (c .before .pixel-at .ensures) (slot-below (start .args .fetched) (start .args .j))
 
 slice-write-out : tie.Need-slice-write-out
 slice-write-out c = search needs

@@ -33,8 +33,11 @@ same-length c = search needs
 
 returns : tie.Need-returns
 returns c =
-    let a = c .before .before .before .before .before .before .before .before .before .before .args in
-    rw (c .before .before .show-narrow2 .ensures, c .before .before .before .before .before .before .show-narrow .ensures) (halves-lent (a .palette .now) (a .first) (a .second) (a .out .now) (c .before .before .before .before .before .before .before .before .before .before .pre .1))
+    let at-show-narrow2 = c .before .before in
+    let at-show-narrow = at-show-narrow2 .before .before .before .before in
+    let start = at-show-narrow .before .before .before .before in
+    let a = start .args in
+    rw (at-show-narrow2 .show-narrow2 .ensures, at-show-narrow .show-narrow .ensures) (halves-lent (a .palette .now) (a .first) (a .second) (a .out .now) (start .pre .1))
 
 pub show-halves-spec : {M : Type 1} → statement M
 show-halves-spec =

@@ -32,11 +32,13 @@ loop-less c = search needs
 
 loop-again : tie.Need-loop-again Inv-loop μ-loop
 loop-again c =
-    let a = c .before .before .before .before .before .before .before .before .args in
+    let at-show-dot = c .before .before in
+    let at-loop = at-show-dot .before .before .before in
+    let a = at-loop .before .before .before .args in
     let f = mixedDot (a .registers) (a .block) (a .fetched) (a .external .now) (a .from) in (
       omega arith,
-      c .before .out .given ∙ c .before .before .before .before .before .loop .inv .1,
-      c .before .before .show-dot .ensures ∙ tab-stored f (a .out .now) (c .before .before .before .before .before .loop .out) (c .before .before .before .before .before .loop .j) (c .before .before .before .before .before .loop .inv .2) (omega arith),
+      c .before .out .given ∙ at-loop .loop .inv .1,
+      at-show-dot .show-dot .ensures ∙ tab-stored f (a .out .now) (at-loop .loop .out) (at-loop .loop .j) (at-loop .loop .inv .2) (omega arith),
     )
 
 same-length : tie.Need-same-length Inv-loop μ-loop

@@ -15,13 +15,21 @@ same-length : tie.Need-same-length
 same-length c = search needs
 
 returns : tie.Need-returns
-returns c = c .before .before .show-halves .ensures ∙ halves-dots (c .before .before .before .before .before .before .before .args .palette .now) (c .before .before .before .before .before .before .before .args .fetched) (c .before .before .before .before .if1 .taken)
+returns c =
+    let at-show-halves = c .before .before in
+    let at-if1 = at-show-halves .before .before in
+    let start = at-if1 .before .before .before in
+    at-show-halves .show-halves .ensures ∙ halves-dots (start .args .palette .now) (start .args .fetched) (at-if1 .if1 .taken)
 
 same-length-2 : tie.Need-same-length-2
 same-length-2 c = search needs
 
 returns-2 : tie.Need-returns-2
-returns-2 c = c .before .before .show-wide .ensures ∙ wide-dots (c .before .before .before .before .before .before .before .args .palette .now) (c .before .before .before .before .before .before .before .args .fetched) (c .before .before .before .before .if1 .left)
+returns-2 c =
+    let at-show-wide = c .before .before in
+    let at-if1 = at-show-wide .before .before in
+    let start = at-if1 .before .before .before in
+    at-show-wide .show-wide .ensures ∙ wide-dots (start .args .palette .now) (start .args .fetched) (at-if1 .if1 .left)
 
 pub show-plain-spec : {M : Type 1} → statement M
 show-plain-spec =

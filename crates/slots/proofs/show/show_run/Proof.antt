@@ -30,9 +30,11 @@ same-length c = search needs
 
 returns : tie.Need-returns
 returns c =
-    let a = c .before .before .before .before .before .args in
+    let at-fill = c .before .before in
+    let start = at-fill .before .before .before in
+    let a = start .args in
     let size : a .k * a .run + a .run - a .k * a .run ≡ a .run = omega arith in
-    rw (c .before .before .fill .ensures, part-length (a .out .now) (a .k * a .run) (a .run) (c .before .before .before .before .before .pre), size)
+    rw (at-fill .fill .ensures, part-length (a .out .now) (a .k * a .run) (a .run) (start .pre), size)
 
 pub show-run-spec : {M : Type 1} → statement M
 show-run-spec =

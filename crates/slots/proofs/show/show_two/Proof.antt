@@ -31,8 +31,11 @@ cast-show-run c = search needs
 
 show-run-requires : tie.Need-show-run-requires Inv-loop μ-loop
 show-run-requires c κs =
-    let a = c .before .before .before .before .before .args in
-    rw (c .before .before .before .loop .inv .1, c .before .before .before .before .before .pre .2) (run-fits 8 (c .before .before .before .loop .k) (a .run) (c .before .before .loop-test .taken))
+    let at-loop-test = c .before .before in
+    let at-loop = at-loop-test .before in
+    let start = at-loop .before .before in
+    let a = start .args in
+    rw (at-loop .loop .inv .1, start .pre .2) (run-fits 8 (at-loop .loop .k) (a .run) (at-loop-test .loop-test .taken))
 
 add-k : tie.Need-add-k Inv-loop μ-loop
 add-k c = search needs
@@ -42,11 +45,15 @@ loop-less c = search needs
 
 loop-again : tie.Need-loop-again Inv-loop μ-loop
 loop-again c =
-    let a = c .before .before .before .before .before .before .before .before .args in
+    let at-show-run = c .before .before in
+    let at-two-shown = at-show-run .before .before in
+    let at-loop = at-two-shown .before .before in
+    let start = at-loop .before .before in
+    let a = start .args in
     let g = twoShown (a .byte) (a .clear) (a .set) in (
       omega arith,
-      c .before .out .given ∙ c .before .before .before .before .before .before .loop .inv .1,
-      c .before .before .show-run .ensures ∙ rw (c .before .before .before .before .two-shown .ensures) (runs-more g (a .run) (a .out .now) (c .before .before .before .before .before .before .loop .out) (c .before .before .before .before .before .before .loop .k) (c .before .before .before .before .before .before .before .before .pre .0) (c .before .before .before .before .before .before .loop .inv .2)),
+      c .before .out .given ∙ at-loop .loop .inv .1,
+      at-show-run .show-run .ensures ∙ rw (at-two-shown .two-shown .ensures) (runs-more g (a .run) (a .out .now) (at-loop .loop .out) (at-loop .loop .k) (start .pre .0) (at-loop .loop .inv .2)),
     )
 
 same-length : tie.Need-same-length Inv-loop μ-loop
@@ -54,8 +61,9 @@ same-length c = search needs
 
 returns : tie.Need-returns Inv-loop μ-loop
 returns c =
-    let a = c .before .before .before .args in
-    runs-all (twoShown (a .byte) (a .clear) (a .set)) (a .run) (a .out .now) (c .before .loop .out) (c .before .loop .k) 8 (omega arith) (c .before .before .before .pre .2) (c .before .loop .inv .2)
+    let start = c .before .before .before in
+    let a = start .args in
+    runs-all (twoShown (a .byte) (a .clear) (a .set)) (a .run) (a .out .now) (c .before .loop .out) (c .before .loop .k) 8 (omega arith) (start .pre .2) (c .before .loop .inv .2)
 
 pub show-two-spec : {M : Type 1} → statement M
 show-two-spec =
