@@ -1,3 +1,2 @@
-pub mod Numbers
 pub mod Same
 pub mod Writes

@@ -1,19 +1,12 @@
 // The files and numbers that the program's arguments name.
-ghost use Prim.Native.Nat.{_+_, _*_, _≤_, min};
-ghost use mathlib.Core.Path.{_≡_};
+ghost use Prim.Native.Nat.{_≤_};
 ghost use lib.ListN.{length};
-ghost use Rattle.files.specs.Numbers.{digit as Numbers·digit, numberOf};
+use text::Number;
 
 // What was read into a buffer: whether the file could be read, and its length, or the buffer's where the file is longer.
 pub struct Contents {
     pub is_read: bool,
     pub length: usize,
-}
-
-// A number as an argument gives it; numbers over 65,536 count as 65,536.
-pub enum Number {
-    Value(usize),
-    Missing,
 }
 
 // Whether nothing is left to read. A read that fails moves nothing, so after one this read fails too.
@@ -95,51 +88,9 @@ pub fn is_same_argument(i: usize, j: usize) -> bool {
     check::same(&first[..n], &second[..m])
 }
 
-// The value of a digit; 10 for any other byte.
-fn digit(byte: u8) -> usize
-    ensures { λ r. ⌜ (r ≡ Numbers·digit byte) × (r ≤ 10) ⌝ }
-{
-    if byte < 48 {
-        return 10;
-    }
-    if 57 < byte {
-        return 10;
-    }
-    (byte - 48) as usize
-}
-
-// The number with one digit more, at most 65,536.
-fn with_digit(value: usize, digit: usize) -> usize
-    requires { ⌜ (value ≤ 65536) × (digit ≤ 10) ⌝ }
-    ensures { λ r. ⌜ r ≡ min (10 * value + digit) 65536 ⌝ }
-{
-    let longer = 10 * value + digit;
-    if longer < 65536 { longer } else { 65536 }
-}
-
-// The number that decimal digits spell.
-fn number_of(text: &[u8]) -> Number
-    ensures { λ r. ⌜ r ≡ numberOf (now (text .entry)) ⌝ }
-{
-    if text.len() == 0 {
-        return Number::Missing;
-    }
-    let mut value: usize = 0;
-    let mut i: usize = 0;
-    while i < text.len() {
-        let next = digit(text[i]);
-        if 9 < next {
-            return Number::Missing;
-        }
-        value = with_digit(value, next);
-        i += 1;
-    }
-    Number::Value(value)
-}
-
 // The number that argument i is.
 pub fn number_argument(i: usize) -> Number {
-    let mut text = io::buffer();
-    let n = os::arg(i, &mut text);
-    number_of(&text[..n])
+    let mut digits = io::buffer();
+    let n = os::arg(i, &mut digits);
+    text::number_of(&digits[..n])
 }

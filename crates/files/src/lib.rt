@@ -6,7 +6,6 @@ mod same;
 mod writes;
 
 pub use argument::Contents;
-pub use argument::Number;
 pub use argument::number_argument;
 pub use argument::read_argument;
 pub use argument::write_argument;

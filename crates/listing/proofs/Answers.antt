@@ -12,7 +12,7 @@ use Rattle.nick.specs.Refusals.{notFull, listingRefusal}
 use Rattle.nick.specs.Listing.{listing, listAnswer, listOutput}
 use Rattle.nick.specs.declared.Registers.{Registers}
 use Rattle.nick.specs.declared.Listed.the-variants.{Length, Refused}
-use Rattle.text.specs.Text.{Wrote}
+use Rattle.text.specs.Writing.{Wrote}
 use Rattle.listing.specs.Lists.{Lists}
 
 -- a buffer of no bytes stays one

@@ -11,7 +11,8 @@ use Rattle.nick.specs.Registers.{baseNumber}
 use Rattle.nick.specs.Blocks.{decoded, blockAt, vint, vres, reload}
 use Rattle.nick.specs.Slots.{modeNumber}
 use Rattle.nick.specs.Colour.{colourNumber}
-use Rattle.nick.specs.Listing.{TAB, decimal, modeName, colourCount, tabbed, numbersAfterName, blockLine, blockLines, blocksListed, listing}
+use Rattle.nick.specs.Listing.{modeName, colourCount, numbersAfterName, blockLine, blockLines, blocksListed, listing}
+use Rattle.text.specs.Decimal.{TAB, decimal, tabbed}
 use Rattle.nick.proofs.Modes.{below-eight}
 use Rattle.nick.specs.declared.Registers.{Registers}
 use Rattle.listing.specs.Lines.{lineAfter, wordLine}

@@ -8,7 +8,7 @@ use native.Mathlib.Omega.{arith}
 use lib.ListN.{length, length-append}
 use Rattle.nick.specs.Listing.{blockLines}
 use Rattle.nick.specs.declared.Registers.{Registers}
-use Rattle.text.specs.Text.{Room, Wrote}
+use Rattle.text.specs.Writing.{Room, Wrote}
 use Rattle.listing.specs.Lines.{lineAfter}
 use Rattle.text.proofs.Writing.{wrote-then}
 

@@ -11,11 +11,12 @@ use Rattle.lists.proofs.Tests.{bit-number}
 use Rattle.lists.proofs.Laws.{tab-places}
 use Rattle.nick.specs.Registers.{baseNumber}
 use Rattle.nick.specs.Slots.{modeNumber}
-use Rattle.nick.specs.Listing.{TAB, LF, headerWord, endWord, decimal, modeName, colourCount, tabbed, numbersAfterName, blockLine, headerLine, endLine}
+use Rattle.nick.specs.Listing.{headerWord, endWord, modeName, colourCount, numbersAfterName, blockLine, headerLine, endLine}
+use Rattle.text.specs.Decimal.{TAB, LF, decimal, tabbed}
 use Rattle.nick.proofs.Modes.{below-eight}
 use Rattle.nick.specs.declared.Registers.{Registers}
 use Rattle.nick.specs.declared.Block.{Block}
-use Rattle.text.specs.Text.{Room, Wrote}
+use Rattle.text.specs.Writing.{Room, Wrote}
 use Rattle.text.proofs.Fields.{field}
 use Rattle.listing.specs.Lines.{wordLine}
 

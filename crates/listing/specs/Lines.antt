@@ -3,7 +3,8 @@ use Prim.Native.Nat.{ℕ, _+_, _%_}
 use mathlib.Core.List.{List, [], _∷_, _++_}
 use Rattle.nick.specs.Registers.{baseNumber}
 use Rattle.nick.specs.Blocks.{blockAt}
-use Rattle.nick.specs.Listing.{LF, decimal, blockLine}
+use Rattle.nick.specs.Listing.{blockLine}
+use Rattle.text.specs.Decimal.{LF, decimal}
 use Rattle.nick.specs.declared.Registers.{Registers}
 
 -- the line of the block k places after the base

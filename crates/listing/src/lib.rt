@@ -6,7 +6,7 @@ ghost use Prim.Native.Nat.{_+_, _%_, _<_, _≤_};
 ghost use lib.ListN.{length};
 ghost use Rattle.nick.specs.Blocks.{blockAt, reload};
 ghost use Rattle.nick.specs.Listing.{blockLines, blocksListed, listing};
-ghost use Rattle.text.specs.Text.{Room, Wrote};
+ghost use Rattle.text.specs.Writing.{Room, Wrote};
 ghost use Rattle.listing.specs.Lines.{lineAfter, wordLine};
 ghost use Rattle.listing.specs.Lists.{Lists};
 use blocks::base_number;

@@ -2,7 +2,7 @@
 ghost use mathlib.Core.Path.{_≡_};
 ghost use Prim.Native.Nat.{_<_};
 ghost use Rattle.nick.specs.Listing.{modeName, numbersAfterName, blockLine};
-ghost use Rattle.text.specs.Text.{Room, Wrote};
+ghost use Rattle.text.specs.Writing.{Room, Wrote};
 use nick::Block;
 use text::TAB;
 use text::put_byte;

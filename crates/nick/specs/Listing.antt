@@ -1,10 +1,11 @@
 -- Document 01, "The listing": the text of the parameter table as a list of bytes, and what the call leaves.
-use Prim.Native.Nat.{ℕ, zero, suc, _+_, _-_, _*_, _/_, _%_}
+use Prim.Native.Nat.{ℕ, zero, suc, _+_, _-_, _*_, _%_}
 use mathlib.Core.Bool.{cond}
 use mathlib.Core.List.{List, [], _∷_, _++_}
-use lib.Dec.{eqb, ltb}
+use lib.Dec.{eqb}
 use lib.ListN.{length, getD, drop}
 use Rattle.lists.specs.Number.{number}
+use Rattle.text.specs.Decimal.{TAB, LF, decimal, tabbed}
 use Rattle.nick.specs.Registers.{baseNumber}
 use Rattle.nick.specs.Blocks.{blockAt, vint, vres, reload}
 use Rattle.nick.specs.Slots.{modeNumber}
@@ -14,23 +15,6 @@ use Rattle.nick.specs.declared.Registers.{Registers}
 use Rattle.nick.specs.declared.Block.{Block}
 use Rattle.nick.specs.declared.Listed.{Listed}
 use Rattle.nick.specs.declared.Listed.the-variants.{Length, Refused}
-
--- a tab, and a line feed
-abbrev pub TAB : ℕ
-TAB = 9
-
-abbrev pub LF : ℕ
-LF = 10
-
--- "decimal, most significant digit first, without leading zeros"; the fuel is any number above n
-abbrev pub digitsOf : ℕ → ℕ → List ℕ
-digitsOf zero n = []
-digitsOf (suc fuel) n =
-    let front = digitsOf fuel (n / 10) in
-    cond (ltb n 10) ((48 + n) ∷ []) (front ++ ((48 + n % 10) ∷ []))
-
-unfoldable pub decimal : ℕ → List ℕ
-decimal n = digitsOf (suc n) n
 
 -- NICKTABLE
 abbrev pub headerWord : List ℕ
@@ -59,11 +43,6 @@ modeName n =
 -- "colours (2, 4, 16, 256)", by the colour mode number
 unfoldable pub colourCount : ℕ → ℕ
 colourCount n = getD (2 ∷ 4 ∷ 16 ∷ 256 ∷ []) n 0
-
--- "One tab stands between fields and a line feed ends every line": numbers, each after a tab
-abbrev pub tabbed : List ℕ → List ℕ
-tabbed [] = []
-tabbed (n ∷ more) = (TAB ∷ decimal n) ++ tabbed more
 
 -- "address, scanlines, mode name, colours, VRES, VINT, RELOAD, LM byte, RM byte, LD1, LD2, eight colours"
 abbrev pub numbersAfterName : Block → List ℕ

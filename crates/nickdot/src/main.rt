@@ -5,10 +5,10 @@ ghost use lib.ListN.{length};
 ghost use Rattle.nick.specs.Numbers.{byteAt};
 ghost use Rattle.nick.specs.Direct.{answered};
 ghost use Rattle.nickdot.specs.Answers.{answerAfter};
-use files::Number;
 use libc::STDOUT_FILENO;
 use nick::Answer;
 use nick::Sources;
+use text::Number;
 
 // The arguments after RAM and WRITES.
 const LINE: usize = 3;

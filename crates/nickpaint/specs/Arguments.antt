@@ -3,8 +3,8 @@ use Prim.Native.Nat.{ℕ, min, max}
 use mathlib.Core.Bool.{Bool, _||_}
 use mathlib.Core.List.{List}
 use lib.ListN.{length, replicate}
-use Rattle.files.specs.declared.argument.Number.{Number}
-use Rattle.files.specs.declared.argument.Number.the-variants.{Value, Missing}
+use Rattle.text.specs.declared.number.Number.{Number}
+use Rattle.text.specs.declared.number.Number.the-variants.{Value, Missing}
 use Rattle.nickpaint.specs.declared.Named.{Named}
 
 -- the lines to stamp: those asked for, but at least one and at most 65,536; one where HEIGHT is no number

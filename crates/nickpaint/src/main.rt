@@ -9,12 +9,12 @@ ghost use mathlib.Core.Bool.{cond};
 ghost use lib.ListN.{length};
 ghost use Rattle.nickpaint.specs.Arguments.{isClash, isInput, linesStamped, stamps};
 ghost use Rattle.nickpaint.specs.Paintings.{PaintsAfter};
-use files::Number;
 use files::RAM;
 use files::WRITES;
 use libc::STDOUT_FILENO;
 use lists::smaller;
 use nick::RECORD_BYTES;
+use text::Number;
 
 // The arguments after RAM and WRITES.
 const HEIGHT: usize = 3;

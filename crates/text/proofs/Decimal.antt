@@ -1,4 +1,4 @@
--- Laws on decimal digits: any fuel above the number gives them, the digits determine the number, and how many there are.
+-- Laws on decimal digits: any fuel above the number gives them, and how many there are.
 use mathlib.Core.Path.{_≡_, refl, sym, ap, _∙_}
 use mathlib.Core.List.{List, [], _∷_, _++_}
 use Prim.Native.Nat.{ℕ, zero, suc, _+_, _-_, _*_, _/_, _%_, _^_, _<_, _≤_}
@@ -7,7 +7,7 @@ use native.Mathlib.Decide.{decLt}
 use native.Mathlib.Omega.{arith}
 use borrow.Author.Tests.{lt-ltb, le-ltb}
 use lib.ListN.{length, length-append}
-use Rattle.nick.specs.Listing.{digitsOf, decimal}
+use Rattle.text.specs.Decimal.{digitsOf, decimal}
 
 digits-one : (fuel n : ℕ) → n < 10 → digitsOf (suc fuel) n ≡ (48 + n) ∷ []
 digits-one fuel n h = rw (lt-ltb n 10 h)
@@ -42,31 +42,6 @@ decimal-more n h =
     sym (enough-fuel (suc n) n (omega arith))
     ∙ digits-more n n h
     ∙ rw (enough-fuel n (n / 10) (omega arith))
-
--- the number that digits stand for, after digits that stand for v
-abbrev pub valueFrom : ℕ → List ℕ → ℕ
-valueFrom v [] = v
-valueFrom v (d ∷ more) = valueFrom (10 * v + (d - 48)) more
-
-value-last : (v : ℕ) (front : List ℕ) (d : ℕ) → valueFrom v (front ++ (d ∷ [])) ≡ 10 * valueFrom v front + (d - 48)
-value-last v [] d = refl
-value-last v (e ∷ front) d = value-last (10 * v + (e - 48)) front d
-
-value-digits : (fuel n : ℕ) → n < fuel → valueFrom 0 (decimal n) ≡ n
-value-digits zero n h = absurd (not-suc-le-zero h)
-value-digits (suc fuel) n h = go (value-digits fuel (n / 10)) (decLt n 10)
-  where
-    go : (n / 10 < fuel → valueFrom 0 (decimal (n / 10)) ≡ n / 10) → Dec (n < 10) → valueFrom 0 (decimal n) ≡ n
-    go ih (yes l) = rw (decimal-one n l) (omega arith)
-    go ih (no l) =
-        rw (decimal-more n (omega arith), value-last 0 (decimal (n / 10)) (48 + n % 10), ih (omega arith)) (omega arith)
-
-pub value-decimal : (n : ℕ) → valueFrom 0 (decimal n) ≡ n
-value-decimal n = value-digits (suc n) n (omega arith)
-
--- the digits of a number determine it
-pub decimal-determines : (m n : ℕ) → decimal m ≡ decimal n → m ≡ n
-decimal-determines m n e = sym (value-decimal m) ∙ ap (valueFrom 0) e ∙ value-decimal n
 
 -- a number below a power of ten has at most as many digits as the power says
 pub decimal-length : (k n : ℕ) → n < 10 ^ suc k → length (decimal n) ≤ suc k

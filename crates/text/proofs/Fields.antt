@@ -2,7 +2,7 @@
 use mathlib.Core.Path.{_≡_, refl, sym}
 use mathlib.Core.List.{List, [], _∷_, _++_, append-nil, append-assoc}
 use Prim.Native.Nat.{ℕ}
-use Rattle.nick.specs.Listing.{TAB, decimal, tabbed}
+use Rattle.text.specs.Decimal.{TAB, decimal, tabbed}
 
 -- a number after a tab
 abbrev pub field : ℕ → List ℕ

@@ -7,7 +7,7 @@ use native.Mathlib.Numerals.{add-one}
 use native.Mathlib.Omega.{arith}
 use lib.ListN.{length, getD, take, drop, set, length-append}
 use lib.Seq.{sets, length-sets, take-suc, take-all, split-at}
-use Rattle.text.specs.Text.{Room, Wrote}
+use Rattle.text.specs.Writing.{Room, Wrote}
 
 -- stores of two texts in a row
 pub sets-append : (out x y : List ℕ) (at : ℕ) → sets out at (x ++ y) ≡ sets (sets out at x) (at + length x) y

@@ -1,8 +1,13 @@
-// Writing text into a buffer from a place on: each function answers the place after its text.
-// Bytes past the buffer's end are counted and not stored.
+// Writing text into a buffer from a place on: each function answers the place after its text, and bytes past the buffer's
+// end are counted and not stored. Reading a number is in module `number`.
 ghost use mathlib.Core.List.{[], _∷_};
-ghost use Rattle.nick.specs.Listing.{TAB, decimal, tabbed};
-ghost use Rattle.text.specs.Text.{Room, Wrote};
+ghost use Rattle.text.specs.Decimal.{TAB, decimal, tabbed};
+ghost use Rattle.text.specs.Writing.{Room, Wrote};
+
+mod number;
+
+pub use number::Number;
+pub use number::number_of;
 
 pub const TAB: u8 = b'\t';
 

@@ -3,7 +3,7 @@ use mathlib.Core.Path.{_≡_}
 use Prim.Native.Nat.{_-_, _≤_}
 use native.Mathlib.Omega.{arith}
 use Rattle.nick.specs.Listing.{blockLines}
-use Rattle.text.specs.Text.{Wrote}
+use Rattle.text.specs.Writing.{Wrote}
 use Rattle.text.proofs.Writing.{wrote-none, wrote-kept}
 use Rattle.listing.proofs.Lines.{line-room, line-more}
 use borrow.Author.Needs.{needs}

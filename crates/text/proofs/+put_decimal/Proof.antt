@@ -3,7 +3,7 @@ use borrow.Author.Needs.{needs}
 use mathlib.Core.List.{[], _∷_}
 use Prim.Native.Nat.{ℕ, _+_, _/_, _%_, _<_}
 use native.Mathlib.Omega.{arith}
-use Rattle.nick.specs.Listing.{decimal}
+use Rattle.text.specs.Decimal.{decimal}
 use Rattle.text.proofs.Decimal.{decimal-one, decimal-more}
 use Rattle.text.proofs.Writing.{wrote-then, room-front, room-next}
 use borrow.Fn.Kinds.{In}

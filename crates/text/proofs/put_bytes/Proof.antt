@@ -4,7 +4,7 @@ use mathlib.Core.List.{[], _∷_}
 use Prim.Native.Nat.{_≤_, _-_}
 use native.Mathlib.Omega.{arith}
 use lib.ListN.{length, take}
-use Rattle.text.specs.Text.{Wrote}
+use Rattle.text.specs.Writing.{Wrote}
 use Rattle.text.proofs.Writing.{wrote-none, wrote-kept, turn-room, turn, all-turns}
 use borrow.Author.Needs.{needs}
 use Rattle.text.proofs.put_bytes.Statement.{statement}

@@ -1,5 +1,5 @@
 -- `text::put_field` writes a tab, then the digits.
-use Rattle.nick.specs.Listing.{decimal}
+use Rattle.text.specs.Decimal.{decimal}
 use Rattle.text.proofs.Writing.{wrote-then, room-next}
 use borrow.Author.Needs.{needs}
 use Rattle.text.proofs.put_field.Statement.{statement}

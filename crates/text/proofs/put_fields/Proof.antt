@@ -2,8 +2,8 @@
 use Prim.Native.Nat.{_-_, _≤_}
 use native.Mathlib.Omega.{arith}
 use lib.ListN.{length, take}
-use Rattle.nick.specs.Listing.{tabbed}
-use Rattle.text.specs.Text.{Wrote}
+use Rattle.text.specs.Decimal.{tabbed}
+use Rattle.text.specs.Writing.{Wrote}
 use Rattle.text.proofs.Writing.{wrote-none, wrote-kept, turn-room, turn, all-turns}
 use Rattle.text.proofs.Fields.{field, one-field, tabbed-append}
 use borrow.Author.Needs.{needs}

@@ -3,7 +3,7 @@ use mathlib.Core.Path.{_≡_}
 use Prim.Native.Nat.{_+_, _-_, _*_}
 use native.Mathlib.Omega.{arith}
 use lib.ListN.{length}
-use Rattle.nick.specs.Listing.{decimal}
+use Rattle.text.specs.Decimal.{decimal}
 use Rattle.text.proofs.Writing.{wrote-then}
 use Rattle.text.proofs.Fields.{field}
 use Rattle.listing.proofs.Pieces.{LineLength, line-text, line-length}

@@ -1,17 +1,17 @@
--- `files::argument::number_of`: the bytes passed are digits, and the value is the number that they spell, at most 65,536.
+-- `text::number::number_of`: the bytes passed are digits, and the value is the number that they spell, at most 65,536.
 use mathlib.Core.Path.{_≡_, _∙_}
 use mathlib.Core.Bool.{true}
 use Prim.Native.Nat.{_-_, _≤_, min}
 use native.Mathlib.Omega.{arith}
-use lib.ListN.{length}
-use Rattle.files.specs.Numbers.{digits, value}
-use Rattle.files.proofs.Digits.{digits-more, value-more, none-empty, none-spoilt, some-number}
+use lib.ListN.{length, take}
+use Rattle.text.specs.Reading.{digits, valueFrom}
+use Rattle.text.proofs.Reading.{digits-more, value-more, none-empty, none-spoilt, some-number}
 use borrow.Author.Needs.{needs}
-use Rattle.files.proofs.argument.number_of.Statement.{statement}
-use Rattle.files.proofs.argument.number_of.Tie as tie
+use Rattle.text.proofs.number.number_of.Statement.{statement}
+use Rattle.text.proofs.number.number_of.Tie as tie
 
 abbrev Inv-loop : tie.InvT-loop
-Inv-loop text v₀ i₀ v i = (i ≤ length text) × (digits text i ≡ true) × (v ≡ min (value text i) 65536)
+Inv-loop text v₀ i₀ v i = (i ≤ length text) × (digits (take i text) ≡ true) × (v ≡ min (valueFrom 0 (take i text)) 65536)
 
 abbrev μ-loop : tie.MeasureT-loop
 μ-loop text v₀ i₀ v i = length text - i
@@ -47,12 +47,13 @@ loop-less c = search needs
 loop-again : tie.Need-loop-again Inv-loop μ-loop
 loop-again c =
     let at-digit = c .before .before in
-    let at-loop = at-digit .before .before .before in
+    let at-loop-test = at-digit .before .before in
+    let at-loop = at-loop-test .before in
     let text = at-loop .before .before .before .args .text .now in
     let i = at-loop .loop .i in (
       omega arith,
-      digits-more text i (at-loop .loop .inv .1) (rw (← at-digit .digit .ensures .0) (c .before .if2 .left)),
-      c .with-digit .ensures ∙ rw (at-digit .digit .ensures .0) (value-more text i (at-loop .loop .value) (at-loop .loop .inv .2)),
+      digits-more text i (at-loop-test .loop-test .taken) (at-loop .loop .inv .1) (rw (← at-digit .digit .ensures .0) (c .before .if2 .left)),
+      c .with-digit .ensures ∙ rw (at-digit .digit .ensures .0) (value-more text i (at-loop-test .loop-test .taken) (at-loop .loop .value) (at-loop .loop .inv .2)),
     )
 
 returns-3 : tie.Need-returns-3 Inv-loop μ-loop

@@ -1,9 +1,9 @@
--- `files::argument::digit` makes the two tests of the definition.
+-- `text::number::digit` makes the two tests of the definition.
 use borrow.Author.Tests.{lt-ltb, le-ltb}
 use native.Mathlib.Omega.{arith}
 use borrow.Author.Needs.{needs}
-use Rattle.files.proofs.argument.digit.Statement.{statement}
-use Rattle.files.proofs.argument.digit.Tie as tie
+use Rattle.text.proofs.number.digit.Statement.{statement}
+use Rattle.text.proofs.number.digit.Tie as tie
 
 returns : tie.Need-returns
 returns c = (rw (lt-ltb (c .before .args .byte) 48 (c .if1 .taken)), omega arith)
