@@ -1,5 +1,6 @@
 // Line parameter blocks: decoding the sixteen bytes, how a scanline begins, and the active slots between the margins.
 mod margins;
+mod mode;
 
 ghost use mathlib.Core.Path.{_≡_};
 ghost use Prim.Native.Nat.{_<_};
@@ -9,6 +10,20 @@ ghost use Rattle.nick.specs.Blocks.{decoded, blockAt, loadedNumber, loaded, con
 use lists::word;
 pub use margins::active_before;
 pub use margins::is_active;
+pub use mode::ATTR;
+pub use mode::CH64;
+pub use mode::CH128;
+pub use mode::CH256;
+pub use mode::LPIXEL;
+pub use mode::PIXEL;
+pub use mode::UNUSED;
+pub use mode::VSYNC;
+pub use mode::code_width;
+pub use mode::colour_mode;
+pub use mode::has_reload;
+pub use mode::has_vint;
+pub use mode::has_vres;
+pub use mode::video_mode;
 use nick::Block;
 use nick::Pointers;
 use nick::Registers;
@@ -75,7 +90,7 @@ fn loaded_number(registers: Registers, scan: Scan) -> u16
     if scan.pending {
         return base_number(registers);
     }
-    if scan.block.mb % 2 == 1 {
+    if has_reload(scan.block) {
         return base_number(registers);
     }
     if registers.lph / 64 % 2 == 0 {
@@ -116,7 +131,7 @@ pub fn resume(scan: Scan) -> Scan
 {
     let block = scan.block;
     let mut at = scan.at;
-    if block.mb / 16 % 2 == 0 {
+    if !has_vres(block) {
         at.ld1 = block.start.ld1;
     }
     Scan {

@@ -34,7 +34,7 @@ flags-below b wasLow load last =
       number-le (not (syncs (modeOf b))),
       number-le load,
       number-le last,
-      number-le (isUnused (modeOf b)),
+      number-le (isUnused b),
     )
 
 pub first-below : (ram : List ℕ) (s : State) → byteAt (lineRecord ram s) 0 < 64

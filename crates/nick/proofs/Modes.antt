@@ -6,7 +6,6 @@ use native.Mathlib.Omega.{arith}
 use lib.Dec.{eqb, leb}
 use Rattle.nick.specs.Slots.{CH, modeNumbered, modeFetches, linePointers}
 use Rattle.nick.specs.Sync.{syncs}
-use Rattle.nick.specs.Record.{isUnused}
 use Rattle.nick.specs.declared.Pointers.{Pointers}
 
 -- what holds of 0 to 7 holds below 8
@@ -29,12 +28,7 @@ pub syncs-zero : (m : ℕ) → m < 8 → syncs (modeNumbered m) ≡ eqb m 0
 unfolding modeNumbered
 syncs-zero = below-eight (λ m. syncs (modeNumbered m) ≡ eqb m 0) refl refl refl refl refl refl refl refl
 
--- the unused mode is mode 6
-pub unused-six : (m : ℕ) → m < 8 → isUnused (modeNumbered m) ≡ eqb m 6
-unfolding modeNumbered
-unused-six = below-eight (λ m. isUnused (modeNumbered m) ≡ eqb m 6) refl refl refl refl refl refl refl refl
-
--- the others fetch
+-- all but VSYNC and the unused mode 6 fetch
 pub fetches-but : (m : ℕ) → m < 8 → modeFetches (modeNumbered m) ≡ not (eqb m 0 || eqb m 6)
 unfolding modeNumbered
 fetches-but =

@@ -1,25 +1,20 @@
 -- Document 01, "The line record", and one scanline as a step from state to state.
 use Prim.Native.Nat.{ℕ, zero, suc, _+_, _*_}
-use mathlib.Core.Bool.{Bool, true, false, not, cond, _&&_}
+use mathlib.Core.Bool.{Bool, not, cond, _&&_}
 use mathlib.Core.List.{List, [], _∷_}
 use lib.Dec.{eqb}
 use lib.ListN.{length}
 use Rattle.lists.specs.Number.{number}
 use Rattle.nick.specs.Blocks.{loads, begun, vint}
-use Rattle.nick.specs.Slots.{Mode, VSYNC, PIXEL, ATTR, CH, UNUSED, LPIXEL, modeOf, modeFetches, activeSlots}
+use Rattle.nick.specs.Slots.{modeNumber, modeOf, modeFetches, activeSlots}
 use Rattle.nick.specs.Scanline.{lineFetches, nextScan}
 use Rattle.nick.specs.Sync.{syncs, lineSync, lineSyncCount}
 use Rattle.nick.specs.declared.Block.{Block}
 use Rattle.nick.specs.declared.State.{State}
 
 -- "bit 5 video mode 6"
-abbrev pub isUnused : Mode → Bool
-isUnused VSYNC = false
-isUnused PIXEL = false
-isUnused ATTR = false
-isUnused (CH width) = false
-isUnused UNUSED = true
-isUnused LPIXEL = false
+abbrev pub isUnused : Block → Bool
+isUnused b = eqb (modeNumber b) 6
 
 -- "Byte 0: bit 0 VIRQ low (VINT set); bit 1 VIRQ low now and high in the scanline before; bit 2 burst given (not VSYNC); bit 3
 -- a block was loaded; bit 4 no scanlines are left after this one; bit 5 video mode 6; bits 6, 7 zero."
@@ -30,7 +25,7 @@ flags b wasLow load last =
     + 4 * number (not (syncs (modeOf b)))
     + 8 * number load
     + 16 * number last
-    + 32 * number (isUnused (modeOf b))
+    + 32 * number (isUnused b)
 
 -- "Byte 3: active slots in modes that fetch, else 0."
 abbrev pub fetchingSlots : Block → ℕ
