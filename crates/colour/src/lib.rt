@@ -14,6 +14,7 @@ ghost use Rattle.colour.specs.Cell.{
   paletteNumber,
   paletteOf,
 };
+use blocks::colour_mode;
 use nick::Block;
 use nick::Pixel;
 use nick::Registers;
@@ -102,7 +103,7 @@ fn cell_of(colours: u8, byte: u8, low: u8, high: u8) -> Cell
 pub fn graphics_cell(block: Block, byte: u8) -> Cell
     ensures { λ r. ⌜ r ≡ graphicsCell block byte ⌝ }
 {
-    let colours = block.mb / 32 % 4;
+    let colours = colour_mode(block);
     if colours != 0 {
         return cell_of(colours, byte, 0, 1);
     }
@@ -118,7 +119,7 @@ pub fn character_cell(block: Block, code: u8, byte: u8) -> Cell
     ensures { λ r. ⌜ r ≡ characterCell block code byte ⌝ }
 {
     let added = 2 * both_set(block.rm, 7, code, 7) + 4 * both_set(block.rm, 6, code, 6);
-    cell_of(block.mb / 32 % 4, byte, added, added + 1)
+    cell_of(colour_mode(block), byte, added, added + 1)
 }
 
 // A display byte of ATTR, always in two colours: a clear bit takes the attribute's high four bits, a set one the low four.

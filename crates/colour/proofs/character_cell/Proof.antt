@@ -20,6 +20,9 @@ mul-added-2 c = search needs
 add-added : tie.Need-add-added
 add-added c = search needs
 
+colour-mode-requires : tie.Need-colour-mode-requires
+colour-mode-requires c κs = search needs
+
 add-cell-of : tie.Need-add-cell-of
 add-cell-of c = search needs
 
@@ -28,13 +31,15 @@ cell-of-requires c κs = search needs
 
 returns : tie.Need-returns
 returns c =
-    let at-both-set2 = c .before .before in
+    let at-colour-mode = c .before in
+    let at-both-set2 = at-colour-mode .before in
     let at-both-set = at-both-set2 .before in
     let a = at-both-set .before .args in
     let first = at-both-set .both-set in
     let second = at-both-set2 .both-set2 in
     c .cell-of .ensures
-    ∙ character-both (a .block) (a .code) (a .byte) (first .result) (second .result) (first .ensures) (second .ensures)
+    ∙ rw (at-colour-mode .colour-mode .ensures .0)
+    (character-both (a .block) (a .code) (a .byte) (first .result) (second .result) (first .ensures) (second .ensures))
 
 pub character-cell-spec : {M : Type 1} → statement M
 character-cell-spec =
@@ -45,6 +50,7 @@ character-cell-spec =
     both-set-requires-2
     mul-added-2
     add-added
+    colour-mode-requires
     add-cell-of
     cell-of-requires
     returns)

@@ -1,17 +1,22 @@
 -- `colour::graphics_cell`: outside two colours the byte as it is; in two, the weighted alternate bits are what the rules add and clear.
-use mathlib.Core.Path.{_∙_}
+use mathlib.Core.Path.{_∙_, sym}
 use borrow.Author.Needs.{needs}
 use Rattle.colour.proofs.Alternates.{graphics-two, graphics-other}
 use Rattle.colour.proofs.graphics_cell.Statement.{statement}
 use Rattle.colour.proofs.graphics_cell.Tie as tie
+
+colour-mode-requires : tie.Need-colour-mode-requires
+colour-mode-requires c κs = search needs
 
 cell-of-requires : tie.Need-cell-of-requires
 cell-of-requires c κs = search needs
 
 returns : tie.Need-returns
 returns c =
-    let a = c .before .before .before .args in
-    c .cell-of .ensures ∙ graphics-other (a .block) (a .byte) (c .before .if1 .taken)
+    let at-colour-mode = c .before .before in
+    let a = at-colour-mode .before .args in
+    let named = at-colour-mode .colour-mode .ensures .0 in
+    c .cell-of .ensures ∙ rw named (graphics-other (a .block) (a .byte) (λ z. c .before .if1 .taken (named ∙ z)))
 
 both-set-requires : tie.Need-both-set-requires
 both-set-requires c κs = search needs
@@ -47,16 +52,19 @@ returns-2 : tie.Need-returns-2
 returns-2 c =
     let at-both-set = c .before .before in
     let at-if1 = at-both-set .before in
-    let a = at-if1 .before .before .args in
+    let at-colour-mode = at-if1 .before in
+    let a = at-colour-mode .before .args in
+    let none = sym (at-colour-mode .colour-mode .ensures .0) ∙ at-if1 .if1 .left in
     let msb = at-both-set .both-set in
     let lsb = c .before .both-set2 in
     c .cell-of2 .ensures
-    ∙ graphics-two (a .block) (a .byte) (msb .result) (lsb .result) (at-if1 .if1 .left) (msb .ensures) (lsb .ensures)
+    ∙ graphics-two (a .block) (a .byte) (msb .result) (lsb .result) none (msb .ensures) (lsb .ensures)
 
 pub graphics-cell-spec : {M : Type 1} → statement M
 graphics-cell-spec =
     tie.close
     (tie.spec
+    colour-mode-requires
     cell-of-requires
     returns
     both-set-requires
