@@ -11,6 +11,14 @@ ghost use Rattle.nick.specs.Direct.{addressesOf};
 ghost use Rattle.nick.specs.Scanline.{activeAt};
 ghost use Rattle.nick.specs.Sync.{syncs};
 ghost use Rattle.fetch.specs.Fetches.{oneCell, noFetch, fetchedIn, fetchedAt, slotPixel};
+use blocks::ATTR;
+use blocks::CH64;
+use blocks::CH256;
+use blocks::PIXEL;
+use blocks::UNUSED;
+use blocks::VSYNC;
+use blocks::code_width;
+use blocks::video_mode;
 use colour::Cell;
 use nick::Block;
 use nick::Pixel;
@@ -127,13 +135,13 @@ fn fetch(ram: &[u8], block: Block, at: Pointers) -> Fetched
     requires { ⌜ length (now ram) ≡ 65536 ⌝ }
     ensures { λ r. ⌜ r ≡ fetchedIn (modeOf block) (now (ram .entry)) block at ⌝ }
 {
-    let mode = block.mb / 2 % 8;
+    let mode = video_mode(block);
     match mode {
-        0 => no_fetch(at),
-        1 => pixel(ram, block, at),
-        2 => attribute(ram, block, at),
-        3..=5 => character(ram, block, 11 - mode, at),
-        6 => no_fetch(at),
+        VSYNC => no_fetch(at),
+        PIXEL => pixel(ram, block, at),
+        ATTR => attribute(ram, block, at),
+        CH256..=CH64 => character(ram, block, code_width(mode), at),
+        UNUSED => no_fetch(at),
         _ => lpixel(ram, block, at),
     }
 }
@@ -155,7 +163,7 @@ pub fn fetch_slot(ram: &[u8], block: Block, n: usize, at: Pointers) -> Fetched
 pub fn unfetched(registers: Registers, block: Block) -> u8
     ensures { λ r. ⌜ r ≡ cond (syncs (modeOf block)) 0 (registers .border) ⌝ }
 {
-    if block.mb / 2 % 8 == 0 {
+    if video_mode(block) == VSYNC {
         0
     } else {
         registers.border
@@ -181,22 +189,22 @@ fn active_sources(ram: &[u8], block: Block, at: Pointers, j: usize) -> Sources
     requires { ⌜ (length (now ram) ≡ 65536) × (j < 16) ⌝ }
     ensures { λ r. ⌜ addressesOf r ≡ dotAddresses (modeOf block) (now (ram .entry)) at j ⌝ }
 {
-    let mode = block.mb / 2 % 8;
+    let mode = video_mode(block);
     match mode {
-        0 => Sources::Nothing,
-        1 => {
+        VSYNC => Sources::Nothing,
+        PIXEL => {
             if j < 8 {
                 Sources::One(at.ld1)
             } else {
                 Sources::One(wrapping_add_u16(at.ld1, 1))
             }
         }
-        2 => Sources::Two(at.ld1, at.ld2),
-        3..=5 => {
+        ATTR => Sources::Two(at.ld1, at.ld2),
+        CH256..=CH64 => {
             let code = ram[at.ld1 as usize];
-            Sources::Two(at.ld1, font::font_address(11 - mode, at.ld2, code))
+            Sources::Two(at.ld1, font::font_address(code_width(mode), at.ld2, code))
         }
-        6 => Sources::Nothing,
+        UNUSED => Sources::Nothing,
         _ => Sources::One(at.ld1),
     }
 }

@@ -1,20 +1,22 @@
 -- `fetch::unfetched`: VSYNC is mode 0.
-use Prim.Native.Nat.{_/_, _%_}
 use borrow.Author.Tests.{eq-eqb, ne-eqb}
-use native.Mathlib.Omega.{arith}
 use Rattle.nick.proofs.Modes.{syncs-zero}
+use borrow.Author.Needs.{needs}
 use Rattle.fetch.proofs.unfetched.Statement.{statement}
 use Rattle.fetch.proofs.unfetched.Tie as tie
 
+video-mode-requires : tie.Need-video-mode-requires
+video-mode-requires c κs = search needs
+
 returns : tie.Need-returns
 returns c =
-    let m = c .before .before .args .block .mb / 2 % 8 in
-    rw (syncs-zero m (omega arith), eq-eqb m 0 (c .if1 .taken))
+    let mode = c .before .video-mode in
+    rw (← mode .ensures .0, syncs-zero (mode .result) (mode .ensures .1), eq-eqb (mode .result) 0 (c .if1 .taken))
 
 returns-2 : tie.Need-returns-2
 returns-2 c =
-    let m = c .before .before .args .block .mb / 2 % 8 in
-    rw (syncs-zero m (omega arith), ne-eqb m 0 (c .if1 .left))
+    let mode = c .before .video-mode in
+    rw (← mode .ensures .0, syncs-zero (mode .result) (mode .ensures .1), ne-eqb (mode .result) 0 (c .if1 .left))
 
 pub unfetched-spec : {M : Type 1} → statement M
-unfetched-spec = tie.close (tie.spec returns returns-2)
+unfetched-spec = tie.close (tie.spec video-mode-requires returns returns-2)
