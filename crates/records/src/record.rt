@@ -5,6 +5,10 @@ ghost use lib.ListN.{length};
 ghost use Rattle.nick.specs.Sizes.{recordBytes};
 ghost use Rattle.nick.specs.Record.{flags, fetchingSlots};
 ghost use Rattle.records.specs.Records.{bytesOf};
+use blocks::UNUSED;
+use blocks::VSYNC;
+use blocks::has_vint;
+use blocks::video_mode;
 use lists::bit;
 use nick::Block;
 
@@ -38,25 +42,25 @@ fn falls(low: bool, was_low: bool) -> bool
 pub fn flag_byte(block: Block, was_low: bool, load: bool, last: bool) -> u8
     ensures { λ r. ⌜ r ≡ flags block «was_low» load last ⌝ }
 {
-    let mode = block.mb / 2 % 8;
-    let low = block.mb / 128 % 2 == 1;
+    let mode = video_mode(block);
+    let low = has_vint(block);
     bit(low)
         + 2 * bit(falls(low, was_low))
-        + 4 * bit(mode != 0)
+        + 4 * bit(mode != VSYNC)
         + 8 * bit(load)
         + 16 * bit(last)
-        + 32 * bit(mode == 6)
+        + 32 * bit(mode == UNUSED)
 }
 
 // Byte 3: the active slots, in modes that fetch.
 pub fn slots_byte(block: Block) -> u8
     ensures { λ r. ⌜ r ≡ fetchingSlots block ⌝ }
 {
-    let mode = block.mb / 2 % 8;
-    if mode == 0 {
+    let mode = video_mode(block);
+    if mode == VSYNC {
         return 0;
     }
-    if mode == 6 {
+    if mode == UNUSED {
         return 0;
     }
     blocks::active_before(block, 46) as u8

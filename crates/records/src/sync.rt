@@ -1,6 +1,8 @@
 // Sync through the 57 slots of a scanline.
 ghost use Prim.Native.Nat.{_<_};
 ghost use Rattle.records.specs.Syncs.{Syncs, SyncStep};
+use blocks::VSYNC;
+use blocks::video_mode;
 use nick::Block;
 
 // The level, and the slots counted at sync level.
@@ -40,7 +42,7 @@ pub fn sync_line(block: Block, on: bool) -> Sync
     ensures { λ r. ⌜ Syncs block on r ⌝ }
 {
     let mut sync = Sync { on, count: 0 };
-    if block.mb / 2 % 8 != 0 {
+    if video_mode(block) != VSYNC {
         sync.on = false;
         return sync;
     }

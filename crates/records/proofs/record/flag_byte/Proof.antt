@@ -1,11 +1,15 @@
 -- `records::record::flag_byte`: each bit is the rule's, the modes being told by their numbers.
-use Prim.Native.Nat.{_/_, _%_}
-use native.Mathlib.Omega.{arith}
 use Rattle.nick.specs.Record.{flags}
-use Rattle.nick.proofs.Modes.{syncs-zero, unused-six}
+use Rattle.nick.proofs.Modes.{syncs-zero}
 use borrow.Author.Needs.{needs}
 use Rattle.records.proofs.record.flag_byte.Statement.{statement}
 use Rattle.records.proofs.record.flag_byte.Tie as tie
+
+video-mode-requires : tie.Need-video-mode-requires
+video-mode-requires c κs = search needs
+
+has-vint-requires : tie.Need-has-vint-requires
+has-vint-requires c κs = search needs
 
 bit-requires : tie.Need-bit-requires
 bit-requires c κs = search needs
@@ -66,10 +70,12 @@ returns c =
     let at-bit2 = at-bit3 .before in
     let at-falls = at-bit2 .before in
     let at-bit = at-falls .before in
-    let m = at-bit .before .before .before .args .block .mb / 2 % 8 in
+    let at-has-vint = at-bit .before in
+    let mode = at-has-vint .before .video-mode in
     rw (
-      syncs-zero m (omega arith),
-      unused-six m (omega arith),
+      ← mode .ensures .0,
+      syncs-zero (mode .result) (mode .ensures .1),
+      ← at-has-vint .has-vint .ensures,
       at-bit .bit .ensures .0,
       at-bit2 .bit2 .ensures .0,
       at-falls .falls .ensures,
@@ -83,6 +89,8 @@ pub flag-byte-spec : {M : Type 1} → statement M
 flag-byte-spec =
     tie.close
     (tie.spec
+    video-mode-requires
+    has-vint-requires
     bit-requires
     falls-requires
     bit-requires-2

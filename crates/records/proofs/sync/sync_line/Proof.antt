@@ -1,6 +1,6 @@
 -- `records::sync::sync_line`: after each turn the level and the count are the rules' over the slots passed.
 use mathlib.Core.Path.{_≡_, _∙_, ap}
-use Prim.Native.Nat.{ℕ, suc, _-_, _/_, _%_, _≤_}
+use Prim.Native.Nat.{ℕ, suc, _-_, _≤_}
 use native.Mathlib.Numerals.{add-one}
 use native.Mathlib.Omega.{arith}
 use borrow.Author.Tests.{eq-eqb, ne-eqb}
@@ -18,13 +18,17 @@ Inv-loop block on sync₀ slot₀ sync slot =
 abbrev μ-loop : tie.MeasureT-loop
 μ-loop block on sync₀ slot₀ sync slot = 57 - slot
 
+video-mode-requires : tie.Need-video-mode-requires Inv-loop μ-loop
+video-mode-requires c κs = search needs
+
 returns : tie.Need-returns Inv-loop μ-loop
 unfolding lineSync lineSyncCount
 returns c =
-    let m = c .before .before .args .block .mb / 2 % 8 in
+    let mode = c .before .video-mode in
+    let m = mode .result in
     record {
-      level = rw (syncs-zero m (omega arith), ne-eqb m 0 (c .if1 .taken));
-      slots = rw (syncs-zero m (omega arith), ne-eqb m 0 (c .if1 .taken));
+      level = rw (← mode .ensures .0, syncs-zero m (mode .ensures .1), ne-eqb m 0 (c .if1 .taken));
+      slots = rw (← mode .ensures .0, syncs-zero m (mode .ensures .1), ne-eqb m 0 (c .if1 .taken));
     }
 
 loop-holds : tie.Need-loop-holds Inv-loop μ-loop
@@ -57,12 +61,14 @@ loop-again c =
 returns-2 : tie.Need-returns-2 Inv-loop μ-loop
 unfolding lineSync lineSyncCount
 returns-2 c =
-    let start = c .before .before .before .before in
-    let m = start .args .block .mb / 2 % 8 in
+    let at-if1 = c .before .before in
+    let mode = at-if1 .before .video-mode in
+    let m = mode .result in
+    let start = at-if1 .before .before in
     let all : c .before .loop .slot ≡ 57 = omega arith in
     record {
-      level = rw (syncs-zero m (omega arith), eq-eqb m 0 (omega arith)) (c .before .loop .inv .1 ∙ ap (λ (n : ℕ). syncAfter (start .args .block) n (start .args .on)) all);
-      slots = rw (syncs-zero m (omega arith), eq-eqb m 0 (omega arith)) (c .before .loop .inv .2 ∙ ap (λ (n : ℕ). syncCount (start .args .block) n (start .args .on)) all);
+      level = rw (← mode .ensures .0, syncs-zero m (mode .ensures .1), eq-eqb m 0 (at-if1 .if1 .left)) (c .before .loop .inv .1 ∙ ap (λ (n : ℕ). syncAfter (start .args .block) n (start .args .on)) all);
+      slots = rw (← mode .ensures .0, syncs-zero m (mode .ensures .1), eq-eqb m 0 (at-if1 .if1 .left)) (c .before .loop .inv .2 ∙ ap (λ (n : ℕ). syncCount (start .args .block) n (start .args .on)) all);
     }
 
 pub sync-line-spec : {M : Type 1} → statement M
@@ -71,6 +77,7 @@ sync-line-spec =
     (tie.spec
     Inv-loop
     μ-loop
+    video-mode-requires
     returns
     loop-holds
     pass-slot-requires
