@@ -10,7 +10,14 @@ ghost use Rattle.nick.specs.Scanline.{pointersAfter};
 ghost use Rattle.walk.specs.Steps.{StepsOf, advanced, skipped};
 ghost use Rattle.nick.specs.Refusals.{Formed};
 ghost use Rattle.walk.specs.Walks.{Reached, Turns};
+use blocks::ATTR;
+use blocks::CH64;
+use blocks::CH256;
+use blocks::LPIXEL;
+use blocks::PIXEL;
 use blocks::active_before;
+use blocks::has_vres;
+use blocks::video_mode;
 use nick::Block;
 use nick::Pointers;
 use nick::Registers;
@@ -42,10 +49,10 @@ pub fn steps_of(mode: u8) -> Steps
     ensures { λ r. ⌜ StepsOf (modeNumbered mode) r ⌝ }
 {
     match mode {
-        1 => steps_by(2, 0, 0),
-        2 => steps_by(1, 1, 0),
-        3..=5 => steps_by(1, 0, 1),
-        7 => steps_by(1, 0, 0),
+        PIXEL => steps_by(2, 0, 0),
+        ATTR => steps_by(1, 1, 0),
+        CH256..=CH64 => steps_by(1, 0, 1),
+        LPIXEL => steps_by(1, 0, 0),
         _ => steps_by(0, 0, 0),
     }
 }
@@ -65,7 +72,7 @@ pub fn pointers_at(block: Block, at: Pointers, slot: u16) -> Pointers
     requires { ⌜ slot ≤ 46 ⌝ }
     ensures { λ r. ⌜ r ≡ pointersAfter block slot at ⌝ }
 {
-    let steps = steps_of(block.mb / 2 % 8);
+    let steps = steps_of(video_mode(block));
     let active = active_before(block, slot);
     advance(at, steps.ld1 * active, steps.ld2 * active)
 }
@@ -75,7 +82,7 @@ fn lines_of_ld1(block: Block, lines: u16) -> u16
     requires { ⌜ lines ≤ 256 ⌝ }
     ensures { λ r. ⌜ (r ≡ cond (vres block) lines 1) × (r ≤ 256) ⌝ }
 {
-    if block.mb / 16 % 2 == 1 { lines } else { 1 }
+    if has_vres(block) { lines } else { 1 }
 }
 
 // The scan after `lines` scanlines of a mode line, from the scan as the first of them begins.
@@ -84,7 +91,7 @@ fn skip(scan: Scan, lines: u16) -> Scan
     ensures { λ r. ⌜ r ≡ skipped scan lines ⌝ }
 {
     let block = scan.block;
-    let steps = steps_of(block.mb / 2 % 8);
+    let steps = steps_of(video_mode(block));
     let active = active_before(block, 46);
     let ld1 = lines_of_ld1(block, lines) * (steps.ld1 * active);
     let ld2 = lines * (steps.ld2 * active + steps.line);

@@ -1,15 +1,17 @@
 -- `walk::lines_of_ld1` tests VRES.
-use Prim.Native.Nat.{_/_, _%_}
-use borrow.Author.Tests.{eq-eqb, ne-eqb}
+use mathlib.Core.Path.{_∙_, sym}
 use borrow.Author.Needs.{needs}
 use Rattle.walk.proofs.lines_of_ld1.Statement.{statement}
 use Rattle.walk.proofs.lines_of_ld1.Tie as tie
 
+has-vres-requires : tie.Need-has-vres-requires
+has-vres-requires c κs = search needs
+
 returns : tie.Need-returns
-returns c = (rw (eq-eqb (c .before .before .args .block .mb / 16 % 2) 1 (c .if1 .taken)), search needs)
+returns c = (rw (sym (c .before .has-vres .ensures) ∙ c .if1 .taken), search needs)
 
 returns-2 : tie.Need-returns-2
-returns-2 c = (rw (ne-eqb (c .before .before .args .block .mb / 16 % 2) 1 (c .if1 .left)), search needs)
+returns-2 c = (rw (sym (c .before .has-vres .ensures) ∙ c .if1 .left), search needs)
 
 pub lines-of-ld1-spec : {M : Type 1} → statement M
-lines-of-ld1-spec = tie.close (tie.spec returns returns-2)
+lines-of-ld1-spec = tie.close (tie.spec has-vres-requires returns returns-2)

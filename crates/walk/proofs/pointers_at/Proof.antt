@@ -6,6 +6,9 @@ use borrow.Author.Needs.{needs}
 use Rattle.walk.proofs.pointers_at.Statement.{statement}
 use Rattle.walk.proofs.pointers_at.Tie as tie
 
+video-mode-requires : tie.Need-video-mode-requires
+video-mode-requires c κs = search needs
+
 steps-of-requires : tie.Need-steps-of-requires
 steps-of-requires c κs = search needs
 
@@ -32,12 +35,19 @@ returns c =
     let at-active-before = c .before .before .before in
     let at-steps-of = at-active-before .before in
     let a = at-steps-of .before .before .args in
-    rw (pointers-after (a .block) (a .slot) (a .at) (fits c), ← at-steps-of .steps-of .ensures .same, ← at-active-before .active-before .ensures .0) (c .advance .ensures)
+    rw (
+      pointers-after (a .block) (a .slot) (a .at) (fits c),
+      ← at-steps-of .before .video-mode .ensures .0,
+      ← at-steps-of .steps-of .ensures .same,
+      ← at-active-before .active-before .ensures .0,
+    )
+    (c .advance .ensures)
 
 pub pointers-at-spec : {M : Type 1} → statement M
 pointers-at-spec =
     tie.close
     (tie.spec
+    video-mode-requires
     steps-of-requires
     active-before-requires
     mul-advance

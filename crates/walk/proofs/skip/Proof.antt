@@ -6,6 +6,9 @@ use borrow.Author.Needs.{needs}
 use Rattle.walk.proofs.skip.Statement.{statement}
 use Rattle.walk.proofs.skip.Tie as tie
 
+video-mode-requires : tie.Need-video-mode-requires
+video-mode-requires c κs = search needs
+
 steps-of-requires : tie.Need-steps-of-requires
 steps-of-requires c κs = search needs
 
@@ -49,8 +52,8 @@ mul-ld2-2 c =
 advance-requires : tie.Need-advance-requires
 advance-requires c κs = search needs
 
-sub-t12 : tie.Need-sub-t12
-sub-t12 c = search needs
+sub-t11 : tie.Need-sub-t11
+sub-t11 c = search needs
 
 returns : tie.Need-returns
 unfolding skipped
@@ -58,12 +61,19 @@ returns c =
     let at-lines-of-ld1 = c .before .before .before .before .before .before in
     let at-active-before = at-lines-of-ld1 .before in
     let at-steps-of = at-active-before .before in
-    rw (c .before .advance .ensures, at-lines-of-ld1 .lines-of-ld1 .ensures .0, at-steps-of .steps-of .ensures .same, at-active-before .active-before .ensures .0)
+    rw (
+      c .before .advance .ensures,
+      at-lines-of-ld1 .lines-of-ld1 .ensures .0,
+      at-steps-of .steps-of .ensures .same,
+      at-steps-of .before .video-mode .ensures .0,
+      at-active-before .active-before .ensures .0,
+    )
 
 pub skip-spec : {M : Type 1} → statement M
 skip-spec =
     tie.close
     (tie.spec
+    video-mode-requires
     steps-of-requires
     active-before-requires
     lines-of-ld1-requires
@@ -73,5 +83,5 @@ skip-spec =
     add-ld2
     mul-ld2-2
     advance-requires
-    sub-t12
+    sub-t11
     returns)
