@@ -8,6 +8,10 @@ ghost use Rattle.nick.specs.Slots.{modeOf, linePointers};
 ghost use Rattle.nick.specs.Refusals.{Formed};
 ghost use Rattle.colour.specs.Cell.{paletteOf};
 ghost use Rattle.scanline.specs.Lines.{NextSlot, Slots, endedAt, Line};
+use blocks::CH64;
+use blocks::CH256;
+use blocks::has_vint;
+use blocks::video_mode;
 use nick::Block;
 use nick::Pointers;
 use nick::Registers;
@@ -102,9 +106,9 @@ fn paint_slots(
 fn end_pointers(block: Block, at: Pointers) -> Pointers
     ensures { λ r. ⌜ r ≡ linePointers (modeOf block) at ⌝ }
 {
-    let mode = block.mb / 2 % 8;
+    let mode = video_mode(block);
     match mode {
-        3..=5 => Pointers {
+        CH256..=CH64 => Pointers {
             ld1: at.ld1,
             ld2: std::num::wrapping_add_u16(at.ld2, 1),
         },
@@ -168,7 +172,7 @@ pub fn paint_scanline(
     State {
         registers,
         scan,
-        virq: block.mb / 128 % 2 == 1,
+        virq: has_vint(block),
         sync: sync.on,
     }
 }
