@@ -12,6 +12,11 @@ ghost use lib.Dec.{eqb};
 ghost use Rattle.nick.specs.Numbers.{byteAt};
 ghost use Rattle.nick.specs.Slots.{modeNumber, modeOf};
 ghost use Rattle.direct.specs.Answers.{cellFrom, byteColour, sourcedColour, dotAnswer};
+use blocks::ATTR;
+use blocks::CH64;
+use blocks::CH256;
+use blocks::PIXEL;
+use blocks::video_mode;
 use colour::Cell;
 use nick::Answer;
 use nick::Block;
@@ -24,10 +29,10 @@ use nick::State;
 fn cell_from(block: Block, first: u8, second: u8) -> Cell
     ensures { λ r. ⌜ r ≡ cellFrom (modeOf block) block first second ⌝ }
 {
-    let mode = block.mb / 2 % 8;
+    let mode = video_mode(block);
     match mode {
-        2 => colour::attribute_cell(first, second),
-        3..=5 => colour::character_cell(block, first, second),
+        ATTR => colour::attribute_cell(first, second),
+        CH256..=CH64 => colour::character_cell(block, first, second),
         _ => colour::graphics_cell(block, first),
     }
 }
@@ -37,7 +42,7 @@ fn eighth_of(block: Block, j: usize) -> u8
     requires { ⌜ j < 16 ⌝ }
     ensures { λ r. ⌜ (r ≡ cond (eqb (modeNumber block) 1) (j % 8) (j / 2)) × (r < 8) ⌝ }
 {
-    if block.mb / 2 % 8 == 1 {
+    if video_mode(block) == PIXEL {
         (j % 8) as u8
     } else {
         (j / 2) as u8
