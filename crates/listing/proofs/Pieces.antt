@@ -1,16 +1,15 @@
--- Laws on the pieces of a block's line: names, bits, colours and tabbed numbers, and the line's length.
+-- Laws on the pieces of a block's line: names, colours and tabbed numbers, and the line's length.
 use mathlib.Core.Path.{_≡_, refl}
 use mathlib.Core.List.{List, [], _∷_, _++_}
-use Prim.Native.Nat.{ℕ, suc, _+_, _-_, _*_, _/_, _%_, _<_, _≤_}
-use native.Mathlib.Nat.{div-one}
+use Prim.Native.Nat.{ℕ, suc, _+_, _-_, _*_, _<_, _≤_}
 use native.Mathlib.Omega.{arith}
-use lib.Dec.{eqb}
 use lib.ListN.{length, getD, take, drop, length-append}
 use Rattle.lists.specs.Number.{number}
-use Rattle.lists.proofs.Tests.{bit-number}
 use Rattle.lists.proofs.Laws.{tab-places}
 use Rattle.nick.specs.Registers.{baseNumber}
+use Rattle.nick.specs.Blocks.{vint, vres, reload}
 use Rattle.nick.specs.Slots.{modeNumber}
+use Rattle.nick.specs.Colour.{colourNumber}
 use Rattle.nick.specs.Listing.{headerWord, endWord, modeName, colourCount, numbersAfterName, blockLine, headerLine, endLine}
 use Rattle.text.specs.Decimal.{TAB, LF, decimal, tabbed}
 use Rattle.nick.proofs.Modes.{below-eight}
@@ -50,10 +49,6 @@ name-room at mode h r = rw (name-part mode h) r
 pub name-wrote : {out left : List ℕ} {at end : ℕ} (mode : ℕ) → mode < 8 → Wrote out at (take (6 * mode + nameLength mode - 6 * mode) (drop (6 * mode) names)) end left → Wrote out at (modeName mode) end left
 name-wrote mode h w = rw (name-part mode h) at w
 
--- a bit as a number
-pub number-bit : (x : ℕ) → x % 2 ≡ number (eqb (x % 2) 1)
-number-bit x = bit-number (x % 2) (omega arith)
-
 -- eight numbers that are the places of a list of eight are that list
 pub eight-places : (xs : List ℕ) {c0 c1 c2 c3 c4 c5 c6 c7 : ℕ} → length xs ≡ 8
     → c0 ≡ getD xs 0 0 → c1 ≡ getD xs 1 0 → c2 ≡ getD xs 2 0 → c3 ≡ getD xs 3 0
@@ -61,13 +56,17 @@ pub eight-places : (xs : List ℕ) {c0 c1 c2 c3 c4 c5 c6 c7 : ℕ} → length xs
     → c0 ∷ c1 ∷ c2 ∷ c3 ∷ c4 ∷ c5 ∷ c6 ∷ c7 ∷ [] ≡ xs
 eight-places xs e e0 e1 e2 e3 e4 e5 e6 e7 = rw (e0, e1, e2, e3, e4, e5, e6, e7) (rw e at (tab-places 0 xs))
 
--- the numbers after the name, as the code computes them
-pub numbers-are : (b : Block) (colours : List ℕ) → colours ≡ b .col
-    → getD (2 ∷ 4 ∷ 16 ∷ 256 ∷ []) (b .mb / 32 % 4) 0 ∷ b .mb / 16 % 2 ∷ b .mb / 128 % 2 ∷ b .mb % 2
-    ∷ b .lm ∷ b .rm ∷ b .start .ld1 ∷ b .start .ld2 ∷ colours
+-- the numbers after the name, from the named parts of MB
+pub numbers-are : (b : Block) (n repeat low last : ℕ) (colours : List ℕ)
+    → n ≡ colourNumber b
+    → repeat ≡ number (vres b)
+    → low ≡ number (vint b)
+    → last ≡ number (reload b)
+    → colours ≡ b .col
+    → getD (2 ∷ 4 ∷ 16 ∷ 256 ∷ []) n 0 ∷ repeat ∷ low ∷ last ∷ b .lm ∷ b .rm ∷ b .start .ld1 ∷ b .start .ld2 ∷ colours
     ≡ numbersAfterName b
 unfolding colourCount
-numbers-are b colours e = rw (e, div-one (b .mb), ← (number-bit (b .mb / 16)), ← (number-bit (b .mb / 128)), ← (number-bit (b .mb)))
+numbers-are b n repeat low last colours e0 e1 e2 e3 e4 = rw (e0, e1, e2, e3, e4)
 
 -- a block's line, piece by piece
 pub line-text : (n : ℕ) (b : Block) (xs : List ℕ) → xs ≡ numbersAfterName b

@@ -4,13 +4,13 @@ mod line;
 ghost use mathlib.Core.Path.{_≡_};
 ghost use Prim.Native.Nat.{_+_, _%_, _<_, _≤_};
 ghost use lib.ListN.{length};
-ghost use Rattle.nick.specs.Blocks.{blockAt, reload};
 ghost use Rattle.nick.specs.Listing.{blockLines, blocksListed, listing};
 ghost use Rattle.text.specs.Writing.{Room, Wrote};
 ghost use Rattle.listing.specs.Lines.{lineAfter, wordLine};
 ghost use Rattle.listing.specs.Lists.{Lists};
 use blocks::base_number;
 use blocks::block_at;
+use blocks::has_reload;
 use line::put_block;
 use nick::Listed;
 use nick::Registers;
@@ -32,15 +32,6 @@ fn number_after(base: u16, k: usize) -> u16
     ((base as usize + k) % 4096) as u16
 }
 
-// Whether the block with this number has RELOAD.
-fn has_reload(ram: &[u8], number: u16) -> bool
-    requires { ⌜ (number < 4096) × (length (now ram) ≡ 65536) ⌝ }
-    ensures { λ r. ⌜ r ≡ reload (blockAt (now (ram .entry)) number) ⌝ }
-{
-    let block = block_at(ram, number);
-    block.mb % 2 == 1
-}
-
 // The number of blocks from the base up to the first with RELOAD, at most 4,096.
 fn blocks_listed(registers: Registers, ram: &[u8]) -> usize
     requires { ⌜ length (now ram) ≡ 65536 ⌝ }
@@ -49,7 +40,7 @@ fn blocks_listed(registers: Registers, ram: &[u8]) -> usize
     let base = base_number(registers);
     let mut k = 0;
     while k < 4096 {
-        if has_reload(ram, number_after(base, k)) {
+        if has_reload(block_at(ram, number_after(base, k))) {
             return k + 1;
         }
         k += 1;

@@ -3,6 +3,12 @@ ghost use mathlib.Core.Path.{_≡_};
 ghost use Prim.Native.Nat.{_<_};
 ghost use Rattle.nick.specs.Listing.{modeName, numbersAfterName, blockLine};
 ghost use Rattle.text.specs.Writing.{Room, Wrote};
+use blocks::colour_mode;
+use blocks::has_reload;
+use blocks::has_vint;
+use blocks::has_vres;
+use blocks::video_mode;
+use lists::bit;
 use nick::Block;
 use text::TAB;
 use text::put_byte;
@@ -40,13 +46,12 @@ fn wide(byte: u8) -> usize
 fn numbers_after_name(block: Block) -> [usize; 16]
     ensures { λ r. ⌜ r ≡ numbersAfterName block ⌝ }
 {
-    let mb = block.mb as usize;
     let col = block.col;
     [
-        COLOURS[mb / 32 % 4],
-        mb / 16 % 2,
-        mb / 128 % 2,
-        mb % 2,
+        COLOURS[colour_mode(block) as usize],
+        bit(has_vres(block)) as usize,
+        bit(has_vint(block)) as usize,
+        bit(has_reload(block)) as usize,
         block.lm as usize,
         block.rm as usize,
         block.start.ld1 as usize,
@@ -71,7 +76,7 @@ pub fn put_block(out: &mut [u8], at: usize, number: u16, block: Block) -> usize
     let at = put_decimal(out, at, 16 * number as usize);
     let at = put_field(out, at, 256 - block.sc as usize);
     let at = put_byte(out, at, TAB);
-    let at = put_name(out, at, block.mb as usize / 2 % 8);
+    let at = put_name(out, at, video_mode(block) as usize);
     let at = put_fields(out, at, &numbers);
     put_byte(out, at, b'\n')
 }

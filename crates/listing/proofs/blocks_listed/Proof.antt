@@ -22,6 +22,9 @@ loop-holds c = omega arith
 number-after-requires : tie.Need-number-after-requires Inv-loop μ-loop
 number-after-requires c κs = search needs
 
+block-at-requires : tie.Need-block-at-requires Inv-loop μ-loop
+block-at-requires c κs = search needs
+
 has-reload-requires : tie.Need-has-reload-requires Inv-loop μ-loop
 has-reload-requires c κs = search needs
 
@@ -30,7 +33,8 @@ add-result c = search needs
 
 returns : tie.Need-returns Inv-loop μ-loop
 returns c =
-    let at-number-after = c .before .before in
+    let at-block-at = c .before .before in
+    let at-number-after = at-block-at .before in
     let at-loop = at-number-after .before .before in
     let at-base-number = at-loop .before in
     let start = at-base-number .before .before in
@@ -39,7 +43,7 @@ returns c =
     omega (
       arith,
       listed-after (start .args .registers) ram (base .result) (base .ensures .0) (base .ensures .1),
-      after-reload 4096 ram (base .result) (at-loop .loop .k) (omega arith) (rw (at-number-after .number-after .ensures .0) at (sym (c .before .has-reload .ensures) ∙ c .if1 .taken)),
+      after-reload 4096 ram (base .result) (at-loop .loop .k) (omega arith) (rw (at-block-at .block-at .ensures, at-number-after .number-after .ensures .0) at (sym (c .before .has-reload .ensures) ∙ c .if1 .taken)),
     )
 
 add-k : tie.Need-add-k Inv-loop μ-loop
@@ -50,13 +54,14 @@ loop-less c = search needs
 
 loop-again : tie.Need-loop-again Inv-loop μ-loop
 loop-again c =
-    let at-number-after = c .before .before in
+    let at-block-at = c .before .before in
+    let at-number-after = at-block-at .before in
     let at-loop = at-number-after .before .before in
     let at-base-number = at-loop .before in
     let start = at-base-number .before .before in
     omega (
       arith,
-      after-more 4096 (start .args .ram .now) (at-base-number .base-number .result) (at-loop .loop .k) (omega arith) (rw (at-number-after .number-after .ensures .0) at (sym (c .before .has-reload .ensures) ∙ c .if1 .left)),
+      after-more 4096 (start .args .ram .now) (at-base-number .base-number .result) (at-loop .loop .k) (omega arith) (rw (at-block-at .block-at .ensures, at-number-after .number-after .ensures .0) at (sym (c .before .has-reload .ensures) ∙ c .if1 .left)),
     )
 
 returns-2 : tie.Need-returns-2 Inv-loop μ-loop
@@ -80,6 +85,7 @@ blocks-listed-spec =
     base-number-requires
     loop-holds
     number-after-requires
+    block-at-requires
     has-reload-requires
     add-result
     returns
