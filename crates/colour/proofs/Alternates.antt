@@ -1,8 +1,8 @@
 -- Laws on the alternate bits: two bits that are both set as a product, and what they add to an index and take from a byte.
 use mathlib.Core.Path.{_≡_, refl}
 use mathlib.Core.Bool.{Bool, true, false, cond, _&&_}
-use Prim.Native.Nat.{ℕ, zero, suc, _+_, _-_, _*_, _<_, _≤_, zero-le}
-use native.Mathlib.Nat.{not-suc-le-zero, le-of-suc-le-suc, le-refl, zero-mul, one-mul}
+use Prim.Native.Nat.{ℕ, _+_, _-_, _*_, _<_, _≤_, zero-le}
+use native.Mathlib.Nat.{le-refl, zero-mul, one-mul}
 use borrow.Author.Tests.{ne-eqb}
 use lib.Dec.{lit<}
 use Rattle.lists.specs.Number.{number}
@@ -11,7 +11,8 @@ use Rattle.nick.specs.Numbers.{bit, isSet}
 use Rattle.nick.specs.Colour.{colourNumber, msbAlternate, lsbAlternate, graphicsAdded, graphicsByte, characterAdded}
 use Rattle.nick.specs.declared.Block.{Block}
 use Rattle.colour.specs.Cell.{BothSet, raised, graphicsCell, characterCell}
-use Rattle.colour.proofs.Bits.{bit-below}
+use Rattle.nick.proofs.Bits.{bit-below}
+use Rattle.lists.proofs.Below.{below-two}
 
 times : (s t : Bool) → number s * number t ≡ number (s && t)
 times true true = refl
@@ -20,9 +21,7 @@ times false true = refl
 times false false = refl
 
 times-le : (a b : ℕ) → a < 2 → a * b ≤ b
-times-le zero b h = rw (zero-mul b) zero-le
-times-le (suc zero) b h = rw (one-mul b) (le-refl b)
-times-le (suc (suc a)) b h = absurd (not-suc-le-zero (le-of-suc-le-suc (le-of-suc-le-suc h)))
+times-le a b = below-two (λ (n : ℕ). n * b ≤ b) (rw (zero-mul b) zero-le) (rw (one-mul b) (le-refl b)) a
 
 -- the product of two bits says whether both are set
 pub product : (margin k byte j : ℕ) → BothSet margin k byte j (bit k margin * bit j byte)

@@ -2,7 +2,7 @@
 use mathlib.Core.Path.{_≡_, refl, ap}
 use Prim.Native.Nat.{ℕ, zero, suc, _+_, _-_, _*_, _/_, _%_, _<_}
 use mathlib.Core.Bool.{cond}
-use native.Mathlib.Nat.{not-suc-le-zero, le-of-suc-le-suc, mod-lt}
+use native.Mathlib.Nat.{mod-lt}
 use native.Mathlib.Omega.{arith}
 use lib.Dec.{eqb, lit<}
 use Rattle.lists.proofs.Tests.{cond-below}
@@ -29,15 +29,15 @@ use Rattle.nick.specs.declared.Block.{Block}
 use Rattle.nick.specs.declared.Pixel.the-variants.{Palette}
 use Rattle.colour.specs.Cell.{raised, graphicsCell, characterCell, attributeCell, pixelIn, cellPixel, paletteNumber}
 use Rattle.colour.specs.declared.Cell.{Cell}
-use Rattle.colour.proofs.Bits.{bit-below}
+use Rattle.nick.proofs.Bits.{bit-below}
+use Rattle.lists.proofs.Below.{below-two}
 use Rattle.colour.proofs.Weights.{four-below, sixteen-below}
 use Rattle.colour.proofs.Alternates.{graphics-below, character-below}
 
 -- an index below 2 that is raised
 raised-index : (i added : ℕ) → i < 2 → added < 15 → cond (eqb i 0) (added % 16) ((added + 1) % 16) ≡ i + added
-raised-index zero added hi h = omega arith
-raised-index (suc zero) added hi h = omega arith
-raised-index (suc (suc i)) added hi h = absurd (not-suc-le-zero (le-of-suc-le-suc (le-of-suc-le-suc hi)))
+raised-index i added hi h =
+    below-two (λ n. cond (eqb n 0) (added % 16) ((added + 1) % 16) ≡ n + added) (omega arith) (omega arith) i hi
 
 -- a raised cell's pixels, in every colour mode
 raised-pixel : (cs : Colours) (n byte added k : ℕ) → added < 15 → pixelIn cs (raised n byte added) k ≡ pixelOf cs added byte k

@@ -3,7 +3,7 @@
 use Prim.Native.Nat.{ℕ, _-_, _<_}
 use native.Mathlib.Omega.{arith}
 use Rattle.nick.specs.Colour.{fourIndex, sixteenIndex}
-use Rattle.colour.proofs.Bits.{bit-below}
+use Rattle.nick.proofs.Bits.{bit-below}
 
 pub four-below : (byte k : ℕ) → fourIndex byte k < 16
 unfolding fourIndex

@@ -2,7 +2,7 @@
 use mathlib.Core.Path.{_≡_, refl, _∙_}
 use mathlib.Core.Bool.{Bool, true, false, cond}
 use mathlib.Core.List.{List, [], _∷_, map}
-use Prim.Native.Nat.{ℕ, zero, suc, _-_, _/_, _%_, _≤_, _<_}
+use Prim.Native.Nat.{ℕ, _-_, _/_, _%_, _≤_, _<_}
 use native.Mathlib.Decide.{decLt}
 use native.Mathlib.Omega.{arith}
 use lib.Dec.{eqb}
@@ -21,7 +21,7 @@ use Rattle.nick.specs.declared.Pointers.{Pointers}
 use Rattle.nick.specs.declared.Block.{Block}
 use Rattle.nick.specs.declared.Scan.{Scan}
 use Rattle.nick.specs.declared.State.{State}
-use Rattle.nick.proofs.Modes.{below-eight}
+use Rattle.lists.proofs.Below.{below-two, below-eight}
 use Rattle.laws.proofs.LineDots.{line-dot}
 use Rattle.colour.specs.Cell.{graphicsCell, cellPixel}
 use Rattle.fetch.specs.Fetches.{fetchedIn, slotPixel}
@@ -31,12 +31,7 @@ use Rattle.direct.specs.Answers.{cellFrom, byteColour, sourcedColour, do
 -- modes 0, 1, 6 and 7 have one byte
 pub low-cell : (b : Block) (first second m : ℕ) → m < 2 → graphicsCell b first ≡ cellFrom (modeNumbered m) b first second
 unfolding modeNumbered
-low-cell b first second zero h = refl
-low-cell b first second (suc zero) h = refl
-low-cell b first second (suc (suc m)) h = absurd (too-large m h)
-  where
-    too-large : (n : ℕ) → suc (suc n) < 2 → ⊥
-    too-large n l = omega arith
+low-cell b first second = below-two (λ m. graphicsCell b first ≡ cellFrom (modeNumbered m) b first second) refl refl
 
 pub high-cell : (b : Block) (first second m : ℕ) → 5 < m → m < 8 → graphicsCell b first ≡ cellFrom (modeNumbered m) b first second
 unfolding modeNumbered

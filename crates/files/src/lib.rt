@@ -17,5 +17,6 @@ pub use inputs::read_inputs;
 pub use print::print_refusal;
 pub use print::print_unreadable;
 pub use print::print_unwritten;
+pub use print::print_usage;
 pub use same::is_same_file;
 pub use writes::apply_writes;

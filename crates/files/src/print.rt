@@ -34,6 +34,11 @@ pub fn print_refusal(refusal: u8) {
     io::write_all(STDOUT_FILENO, b"\n");
 }
 
+// Prints how the program is used.
+pub fn print_usage(usage: &[u8]) {
+    io::write_all(STDOUT_FILENO, usage);
+}
+
 // Prints argument i and ends the line.
 fn print_argument(i: usize) {
     let mut path = io::buffer();

@@ -13,7 +13,7 @@ use Rattle.nick.specs.Slots.{modeNumber}
 use Rattle.nick.specs.Colour.{colourNumber}
 use Rattle.nick.specs.Listing.{modeName, colourCount, numbersAfterName, blockLine, blockLines, blocksListed, listing}
 use Rattle.text.specs.Decimal.{TAB, decimal, tabbed}
-use Rattle.nick.proofs.Modes.{below-eight}
+use Rattle.lists.proofs.Below.{below-eight}
 use Rattle.nick.specs.declared.Registers.{Registers}
 use Rattle.listing.specs.Lines.{lineAfter, wordLine}
 use Rattle.text.proofs.Decimal.{decimal-length}

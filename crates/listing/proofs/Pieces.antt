@@ -12,7 +12,7 @@ use Rattle.nick.specs.Slots.{modeNumber}
 use Rattle.nick.specs.Colour.{colourNumber}
 use Rattle.nick.specs.Listing.{headerWord, endWord, modeName, colourCount, numbersAfterName, blockLine, headerLine, endLine}
 use Rattle.text.specs.Decimal.{TAB, LF, decimal, tabbed}
-use Rattle.nick.proofs.Modes.{below-eight}
+use Rattle.lists.proofs.Below.{below-eight}
 use Rattle.nick.specs.declared.Registers.{Registers}
 use Rattle.nick.specs.declared.Block.{Block}
 use Rattle.text.specs.Writing.{Room, Wrote}

@@ -1,3 +1,4 @@
+pub mod Below
 pub mod Tests
 pub mod Laws
 pub mod Rows

@@ -1,27 +1,13 @@
 -- Laws that go by the video mode's number.
 use mathlib.Core.Path.{_≡_, refl}
 use mathlib.Core.Bool.{false, true≢false, not, _||_, _&&_}
-use Prim.Native.Nat.{ℕ, zero, suc, _-_, _<_, _≤_}
+use Prim.Native.Nat.{ℕ, _-_, _<_, _≤_}
 use native.Mathlib.Omega.{arith}
 use lib.Dec.{eqb, leb}
+use Rattle.lists.proofs.Below.{below-eight}
 use Rattle.nick.specs.Slots.{CH, modeNumbered, modeFetches, linePointers}
 use Rattle.nick.specs.Sync.{syncs}
 use Rattle.nick.specs.declared.Pointers.{Pointers}
-
--- what holds of 0 to 7 holds below 8
-pub below-eight : (P : ℕ → Type 0) → P 0 → P 1 → P 2 → P 3 → P 4 → P 5 → P 6 → P 7 → (m : ℕ) → m < 8 → P m
-below-eight P p0 p1 p2 p3 p4 p5 p6 p7 zero h = p0
-below-eight P p0 p1 p2 p3 p4 p5 p6 p7 (suc zero) h = p1
-below-eight P p0 p1 p2 p3 p4 p5 p6 p7 (suc (suc zero)) h = p2
-below-eight P p0 p1 p2 p3 p4 p5 p6 p7 (suc (suc (suc zero))) h = p3
-below-eight P p0 p1 p2 p3 p4 p5 p6 p7 (suc (suc (suc (suc zero)))) h = p4
-below-eight P p0 p1 p2 p3 p4 p5 p6 p7 (suc (suc (suc (suc (suc zero))))) h = p5
-below-eight P p0 p1 p2 p3 p4 p5 p6 p7 (suc (suc (suc (suc (suc (suc zero)))))) h = p6
-below-eight P p0 p1 p2 p3 p4 p5 p6 p7 (suc (suc (suc (suc (suc (suc (suc zero))))))) h = p7
-below-eight P p0 p1 p2 p3 p4 p5 p6 p7 (suc (suc (suc (suc (suc (suc (suc (suc m)))))))) h = absurd (too-large m h)
-  where
-    too-large : (n : ℕ) → suc (suc (suc (suc (suc (suc (suc (suc n))))))) < 8 → ⊥
-    too-large n l = omega arith
 
 -- VSYNC is mode 0
 pub syncs-zero : (m : ℕ) → m < 8 → syncs (modeNumbered m) ≡ eqb m 0

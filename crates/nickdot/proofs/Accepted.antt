@@ -1,12 +1,12 @@
 -- An answer with a colour has RAM of 65,536 bytes: neither a write nor the answer is refused.
-use mathlib.Core.Path.{_≡_, refl}
-use mathlib.Core.Bool.{Bool, true, false, cond}
+use mathlib.Core.Path.{_≡_}
+use mathlib.Core.Bool.{cond}
 use mathlib.Core.List.{List}
 use Prim.Native.Nat.{ℕ}
 use native.Mathlib.Omega.{arith}
 use lib.Dec.{eqb}
 use lib.ListN.{length}
-use borrow.Author.Tests.{eqb-true}
+use Rattle.lists.proofs.Tests.{chosen}
 use Rattle.nick.specs.Refusals.{directRefusal}
 use Rattle.nick.specs.Direct.{Shown, Answered, shows, refused, directShown, direct}
 use Rattle.nick.specs.declared.State.{State}
@@ -16,11 +16,7 @@ use Rattle.nickdot.specs.Answers.{answerAfter}
 
 -- a colour is answered only where the number is 0, and is then the other answer
 coloured : (n : ℕ) (d : Shown) (a : Answered) → shows d ≡ cond (eqb n 0) a (refused n) → (n ≡ 0) × (shows d ≡ a)
-coloured n d a e = go (eqb n 0) refl e
-  where
-    go : (t : Bool) → eqb n 0 ≡ t → shows d ≡ cond t a (refused n) → (n ≡ 0) × (shows d ≡ a)
-    go true h l = (eqb-true n 0 h, l)
-    go false h l = let z : _≡_ {A = ℕ} 0 1 = cc in absurd (omega arith)
+coloured n d a = chosen n (shows d) a (refused n) (λ l. let z : _≡_ {A = ℕ} 0 1 = cc in omega arith)
 
 colour-full : (s : State) (ram : List ℕ) (y x e : ℕ) (d : Shown) → shows d ≡ direct s ram y x e → length ram ≡ 65536
 unfolding direct

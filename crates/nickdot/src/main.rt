@@ -17,12 +17,8 @@ const DOT: usize = 4;
 
 const EXTERNAL: usize = 5;
 
-fn print_usage() {
-    io::write_all(
-        STDOUT_FILENO,
-        b"usage: nickdot RAM WRITES LINE DOT [EXTERNAL-BYTE]; WRITES is pairs of bytes, port and value, at most 32,768\n",
-    );
-}
+const USAGE: [u8; 109] =
+    *b"usage: nickdot RAM WRITES LINE DOT [EXTERNAL-BYTE]; WRITES is pairs of bytes, port and value, at most 32,768\n";
 
 // Prints a byte as a number.
 fn print_byte(byte: u8) {
@@ -110,17 +106,12 @@ fn print_answer(ram: &[u8], writes: &[u8], line: usize, dot: usize, external: u8
 
 // Reads the files and answers.
 fn answer_files(line: usize, dot: usize, external: u8, ram: &mut [u8], writes: &mut [u8]) {
-    let read = files::read_inputs(ram, writes);
-    if read.unread != 0 {
-        files::print_unreadable(read.unread);
+    let read = files::read_inputs(ram, writes, &USAGE);
+    if !read.is_read {
         return;
     }
     let ram_end = read.ram;
     let writes_end = read.writes;
-    if writes_end % 2 == 1 {
-        print_usage();
-        return;
-    }
     print_answer(
         &ram[0..ram_end],
         &writes[0..writes_end],
@@ -146,15 +137,15 @@ fn run_lent(ram: &mut [u8], writes: &mut [u8]) {
     let count = os::arg_count();
     let external = external_asked();
     if count <= DOT || EXTERNAL + 1 < count || 255 < external {
-        print_usage();
+        files::print_usage(&USAGE);
         return;
     }
     let Number::Value(line) = files::number_argument(LINE) else {
-        print_usage();
+        files::print_usage(&USAGE);
         return;
     };
     let Number::Value(dot) = files::number_argument(DOT) else {
-        print_usage();
+        files::print_usage(&USAGE);
         return;
     };
     answer_files(line, dot, external as u8, ram, writes);

@@ -1,13 +1,13 @@
 -- A listing that is not refused is no longer than its output.
-use mathlib.Core.Path.{_≡_, refl, sym, ap, _∙_}
-use mathlib.Core.Bool.{Bool, true, false, cond}
+use mathlib.Core.Path.{_≡_, sym, ap, _∙_}
+use mathlib.Core.Bool.{cond}
 use mathlib.Core.List.{List}
 use Prim.Native.Nat.{ℕ, _≤_}
 use native.Mathlib.Omega.{arith}
 use lib.Dec.{eqb, ltb}
 use lib.ListN.{length}
-use borrow.Author.Tests.{eqb-true, ltb-false}
-use Rattle.lists.proofs.Tests.{not-chosen, rest-zero}
+use borrow.Author.Tests.{ltb-false}
+use Rattle.lists.proofs.Tests.{chosen, not-chosen, rest-zero}
 use Rattle.nick.specs.Refusals.{notFull, listingRefusal}
 use Rattle.nick.specs.Listing.{ListAnswered, listing, listRefused, listLength, listAnswered, listAnswer}
 use Rattle.nick.specs.declared.Registers.{Registers}
@@ -18,11 +18,7 @@ use Rattle.nicklist.specs.Lists.{ListsAfter}
 
 -- a length is answered only where the number is 0, and is then the other answer
 listed : (n k : ℕ) (a : ListAnswered) → listLength k ≡ cond (eqb n 0) a (listRefused n) → (n ≡ 0) × (listLength k ≡ a)
-listed n k a e = go (eqb n 0) refl e
-  where
-    go : (t : Bool) → eqb n 0 ≡ t → listLength k ≡ cond t a (listRefused n) → (n ≡ 0) × (listLength k ≡ a)
-    go true h p = (eqb-true n 0 h, p)
-    go false h p = let z : _≡_ {A = ℕ} 0 1 = cc in absurd (omega arith)
+listed n k a = chosen n (listLength k) a (listRefused n) (λ l. let z : _≡_ {A = ℕ} 0 1 = cc in omega arith)
 
 listing-fits : (g : Registers) (ram out : List ℕ) (n : ℕ) → listLength n ≡ listAnswer g ram out → n ≤ length out
 unfolding listAnswer listingRefusal

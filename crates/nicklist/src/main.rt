@@ -6,12 +6,8 @@ ghost use Rattle.nicklist.specs.Lists.{ListsAfter};
 use libc::STDOUT_FILENO;
 use nick::Listed;
 
-fn print_usage() {
-    io::write_all(
-        STDOUT_FILENO,
-        b"usage: nicklist RAM WRITES; WRITES is pairs of bytes, port and value, at most 32,768\n",
-    );
-}
+const USAGE: [u8; 85] =
+    *b"usage: nicklist RAM WRITES; WRITES is pairs of bytes, port and value, at most 32,768\n";
 
 // Prints the listing at the start of the text.
 fn print_text(text: &[u8], length: usize)
@@ -42,20 +38,15 @@ fn print_listing(ram: &[u8], writes: &[u8], text: &mut [u8]) {
 // Reads the files and lists.
 fn run_lent(ram: &mut [u8], writes: &mut [u8], text: &mut [u8]) {
     if os::arg_count() != files::WRITES + 1 {
-        print_usage();
+        files::print_usage(&USAGE);
         return;
     }
-    let read = files::read_inputs(ram, writes);
-    if read.unread != 0 {
-        files::print_unreadable(read.unread);
+    let read = files::read_inputs(ram, writes, &USAGE);
+    if !read.is_read {
         return;
     }
     let ram_end = read.ram;
     let writes_end = read.writes;
-    if writes_end % 2 == 1 {
-        print_usage();
-        return;
-    }
     print_listing(&ram[0..ram_end], &writes[0..writes_end], text);
 }
 

@@ -7,6 +7,7 @@ ghost use mathlib.Core.Path.{_≡_};
 ghost use Prim.Native.Nat.{_*_, _≤_};
 ghost use mathlib.Core.Bool.{cond};
 ghost use lib.ListN.{length};
+ghost use Rattle.nick.specs.Sizes.{recordBytes};
 ghost use Rattle.nickpaint.specs.Arguments.{isClash, isInput, linesStamped, stamps};
 ghost use Rattle.nickpaint.specs.Paintings.{PaintsAfter};
 use files::RAM;
@@ -42,12 +43,8 @@ fn has_external() -> bool {
     EXTERNAL < os::arg_count()
 }
 
-fn print_usage() {
-    io::write_all(
-        STDOUT_FILENO,
-        b"usage: nickpaint RAM WRITES HEIGHT DOTS RECORDS [EXTERNAL]; WRITES is pairs of bytes, port and value, at most 32,768; DOTS and RECORDS are two files, and neither is an input\n",
-    );
-}
+const USAGE: [u8; 174] =
+    *b"usage: nickpaint RAM WRITES HEIGHT DOTS RECORDS [EXTERNAL]; WRITES is pairs of bytes, port and value, at most 32,768; DOTS and RECORDS are two files, and neither is an input\n";
 
 fn print_painted(height: usize) {
     io::write_all(STDOUT_FILENO, b"painted ");
@@ -115,7 +112,7 @@ fn is_clash(dots: Named, records: Named) -> bool
 fn start() -> Task {
     let count = os::arg_count();
     if count <= RECORDS || is_clash(inputs_named(DOTS), inputs_named(RECORDS)) {
-        print_usage();
+        files::print_usage(&USAGE);
         return Task::Nothing;
     }
     let asked = files::number_argument(HEIGHT);
@@ -124,11 +121,11 @@ fn start() -> Task {
         return Task::Nothing;
     }
     if EXTERNAL + 1 < count || files::is_same_file(DOTS, RECORDS) {
-        print_usage();
+        files::print_usage(&USAGE);
         return Task::Nothing;
     }
     let Number::Value(height) = asked else {
-        print_usage();
+        files::print_usage(&USAGE);
         return Task::Nothing;
     };
     Task::Paint(height)
@@ -200,7 +197,7 @@ fn paint_files(
     records: &mut [u8],
     external: &[u8],
 )
-    requires { ⌜ (length (now dots) ≡ 753664) × (length (now records) ≡ 4096) ⌝ }
+    requires { ⌜ (length (now dots) ≡ 753664) × (length (now records) ≡ 1024 * recordBytes) ⌝ }
 {
     let lines = smaller(height, 1024);
     let dots_end = 736 * lines;
@@ -230,7 +227,7 @@ fn run_read(
     records: &mut [u8],
     external: &mut [u8],
 ) -> bool
-    requires { ⌜ (length (now dots) ≡ 753664) × (length (now records) ≡ 4096) ⌝ }
+    requires { ⌜ (length (now dots) ≡ 753664) × (length (now records) ≡ 1024 * recordBytes) ⌝ }
 {
     let read = read_external(is_given, external);
     if !read.is_read {
@@ -251,19 +248,14 @@ fn run_lent(
     records: &mut [u8],
     external: &mut [u8],
 ) -> bool
-    requires { ⌜ (length (now dots) ≡ 753664) × (length (now records) ≡ 4096) ⌝ }
+    requires { ⌜ (length (now dots) ≡ 753664) × (length (now records) ≡ 1024 * recordBytes) ⌝ }
 {
-    let read = files::read_inputs(ram, writes);
-    if read.unread != 0 {
-        files::print_unreadable(read.unread);
+    let read = files::read_inputs(ram, writes, &USAGE);
+    if !read.is_read {
         return true;
     }
     let ram_end = read.ram;
     let writes_end = read.writes;
-    if writes_end % 2 == 1 {
-        print_usage();
-        return true;
-    }
     run_read(
         is_given,
         &ram[0..ram_end],
@@ -282,7 +274,7 @@ fn run(
     ram: &mut [u8; 65537],
     writes: &mut [u8; 65537],
     dots: &mut [u8; 753664],
-    records: &mut [u8; 4096],
+    records: &mut [u8; 1024 * RECORD_BYTES],
     external: &mut [u8; 753665],
 ) -> bool {
     run_lent(is_given, height, ram, writes, dots, records, external)
@@ -293,7 +285,7 @@ fn run_in_buffers(is_given: bool, height: usize) -> bool {
     let mut ram = [0u8; 65537];
     let mut writes = [0u8; 65537];
     let mut dots = [0u8; 753664];
-    let mut records = [0u8; 4096];
+    let mut records = [0u8; 1024 * RECORD_BYTES];
     let mut external = [0u8; 753665];
     run(
         is_given,

@@ -6,6 +6,7 @@ mod writes;
 
 ghost use Prim.Native.Nat.{_<_, _≤_};
 ghost use Rattle.random_cases.specs.Lengths.{Whole};
+use nick::RECORD_BYTES;
 
 // A family: each has its module.
 enum Family {
@@ -164,7 +165,7 @@ fn run_family(
 fn run(
     ram: &mut [u8; 65537],
     dots: &mut [u8; 754400],
-    records: &mut [u8; 4104],
+    records: &mut [u8; 1026 * RECORD_BYTES],
     external: &mut [u8; 754400],
     out: &mut [u8; 330000],
 ) {
@@ -177,7 +178,7 @@ fn run(
 fn main() {
     let mut ram = [0u8; 65537];
     let mut dots = [0u8; 754400];
-    let mut records = [0u8; 4104];
+    let mut records = [0u8; 1026 * RECORD_BYTES];
     let mut external = [0u8; 754400];
     let mut out = [0u8; 330000];
     run(&mut ram, &mut dots, &mut records, &mut external, &mut out);

@@ -1,6 +1,6 @@
 -- Laws on the number that digits spell: texts in two parts, the bound taken early, and that a number's own digits spell it.
 use mathlib.Core.Path.{_≡_, refl, sym, ap, _∙_}
-use mathlib.Core.Bool.{Bool, true, false, not, _&&_, and-false, or-true, and-assoc}
+use mathlib.Core.Bool.{true, false, not, _&&_, and-false, or-true, and-assoc}
 use mathlib.Core.List.{List, [], _∷_, _++_}
 use Prim.Native.Nat.{ℕ, zero, suc, _+_, _*_, _/_, _%_, _≤_, _<_, min}
 use native.Mathlib.Nat.{not-suc-le-zero}

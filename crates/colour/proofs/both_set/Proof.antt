@@ -2,7 +2,7 @@
 use native.Mathlib.Omega.{arith}
 use borrow.Author.Needs.{needs}
 use Rattle.colour.proofs.Alternates.{product}
-use Rattle.colour.proofs.Bits.{bit-below}
+use Rattle.nick.proofs.Bits.{bit-below}
 use Rattle.colour.proofs.both_set.Statement.{statement}
 use Rattle.colour.proofs.both_set.Tie as tie
 
