@@ -185,9 +185,9 @@ fn state_left(refusal: u8, state: &State, given: &[u8; 32]) -> [u8; 32] {
 fn compare_dots(case: u64, lent: &mut Buffers) -> Outcome {
     let mut random = Random::new(random::DOTS, case);
     let mut head = Head::draw(&mut random);
-    random::draw_ram(&mut random, head.flavour, &mut lent.ram);
+    random::draw_ram(&mut random, head.edits, &mut lent.ram);
     random::settle_block(&mut head, &lent.ram);
-    let state = head.troubled_state();
+    let state = head.faulty_state();
     let ram = &lent.ram[..head.ram_length()];
     let bytes = bytes_given(&state, random::DOTS, case);
     for _ in 0..8 {
@@ -208,8 +208,8 @@ fn compare_listings(case: u64, lent: &mut Buffers, kept: &mut Buffers) -> Outcom
     let head = Head::draw(&mut random);
     let [kind, more] = random.bytes();
     random::draw_plain_ram(&mut random, &mut lent.ram);
-    random::lengthen_table(head.flavour, &mut lent.ram);
-    let state = head.troubled_state();
+    random::lengthen_table(head.edits, &mut lent.ram);
+    let state = head.faulty_state();
     let ram = &lent.ram[..head.ram_length()];
     let bytes = bytes_given(&state, random::LISTINGS, case);
     let mut list = |room: usize| {
@@ -229,7 +229,7 @@ fn compare_listings(case: u64, lent: &mut Buffers, kept: &mut Buffers) -> Outcom
 
 fn compare_writes(case: u64) -> Outcome {
     let mut random = Random::new(random::WRITES, case);
-    let mut state = Head::draw(&mut random).troubled_state();
+    let mut state = Head::draw(&mut random).faulty_state();
     let mut bytes = bytes_given(&state, random::WRITES, case);
     for _ in 0..16 {
         let Write { port, data } = Write::draw(&mut random);

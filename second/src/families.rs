@@ -98,7 +98,7 @@ pub fn print_case(family: &Family, case: u64) {
 pub fn draw_frame(case: u64, buffers: &mut Buffers) -> Call {
     let mut random = Random::new(FRAMES, case);
     let mut head = Head::draw(&mut random);
-    draw_ram(&mut random, head.flavour, &mut buffers.ram);
+    draw_ram(&mut random, head.edits, &mut buffers.ram);
     settle_block(&mut head, &buffers.ram);
     let call = Call::of(&head);
     draw_external(&mut random, &mut buffers.external[..call.external]);
@@ -137,9 +137,9 @@ fn run_frame(case: u64, buffers: &mut Buffers, digest: &mut Digest, tally: &mut 
 fn run_dots(case: u64, buffers: &mut Buffers, digest: &mut Digest, tally: &mut Tally) -> String {
     let mut random = Random::new(DOTS, case);
     let mut head = Head::draw(&mut random);
-    draw_ram(&mut random, head.flavour, &mut buffers.ram);
+    draw_ram(&mut random, head.edits, &mut buffers.ram);
     settle_block(&mut head, &buffers.ram);
-    let state = head.troubled_state();
+    let state = head.faulty_state();
     let ram = &buffers.ram[..head.ram_length()];
     let mut told = format!("ram {} state {state:?}", ram.len());
     digest.given(&state, ram);
@@ -178,8 +178,8 @@ fn run_listing(case: u64, buffers: &mut Buffers, digest: &mut Digest, tally: &mu
     let head = Head::draw(&mut random);
     let [kind, more] = random.bytes();
     draw_plain_ram(&mut random, &mut buffers.ram);
-    lengthen_table(head.flavour, &mut buffers.ram);
-    let state = head.troubled_state();
+    lengthen_table(head.edits, &mut buffers.ram);
+    let state = head.faulty_state();
     let ram = &buffers.ram[..head.ram_length()];
     digest.given(&state, ram);
     let first = list_into(&state, ram, &mut buffers.text, digest);
@@ -207,7 +207,7 @@ fn list_into(state: &State, ram: &[u8], out: &mut [u8], digest: &mut Digest) -> 
 fn run_writes(case: u64, _: &mut Buffers, digest: &mut Digest, tally: &mut Tally) -> String {
     let mut random = Random::new(WRITES, case);
     let head = Head::draw(&mut random);
-    let mut state = head.troubled_state();
+    let mut state = head.faulty_state();
     let mut told = format!("state {state:?}");
     digest.state(&state);
     for _ in 0..WRITES_PER_CASE {
@@ -224,9 +224,9 @@ fn run_writes(case: u64, _: &mut Buffers, digest: &mut Digest, tally: &mut Tally
 }
 
 // ---------------------------------------------------------------------------
-// Colours: every display byte in every way
+// Colours: every display byte in every mode
 
-const WAYS: [(&str, u8); 6] = [
+const CELL_MODES: [(&str, u8); 6] = [
     ("PIXEL", nick::PIXEL),
     ("LPIXEL", nick::LPIXEL),
     ("ATTR", nick::ATTR),
@@ -234,13 +234,13 @@ const WAYS: [(&str, u8); 6] = [
     ("CH128", nick::CH128),
     ("CH64", nick::CH64),
 ];
-/// Attributes and codes that go with each display byte.
-const COMPANIONS: [u8; 6] = [0, 64, 128, 192, 27, 255];
+/// Attributes and codes, which are fetched before the display byte.
+const FIRST_BYTES: [u8; 6] = [0, 64, 128, 192, 27, 255];
 
 pub fn print_colours() {
-    for (name, mode) in WAYS {
+    for (name, mode) in CELL_MODES {
         for colour_mode in 0..4 {
-            let digest = digest_way(mode, colour_mode);
+            let digest = digest_mode(mode, colour_mode);
             println!("colours {name} {colour_mode} {}", digest.value());
         }
     }
@@ -251,8 +251,8 @@ pub fn print_colours() {
     println!("colours levels {}", digest_levels().value());
 }
 
-/// The block of a way: margins 8 and 9 with alternate bits.
-pub fn way_block(mode: u8, colour_mode: u8, lm_bits: u8, rm_bits: u8) -> Block {
+/// A block of the mode: margins 8 and 9 with alternate bits.
+pub fn mode_block(mode: u8, colour_mode: u8, lm_bits: u8, rm_bits: u8) -> Block {
     let mut bytes = [0; 16];
     bytes[1] = 32 * colour_mode + 2 * mode;
     bytes[2] = 64 * lm_bits + 8;
@@ -260,29 +260,29 @@ pub fn way_block(mode: u8, colour_mode: u8, lm_bits: u8, rm_bits: u8) -> Block {
     Block(bytes)
 }
 
-pub fn companions(mode: u8) -> &'static [u8] {
+pub fn first_bytes(mode: u8) -> &'static [u8] {
     match mode {
-        nick::PIXEL | nick::LPIXEL => &COMPANIONS[..1],
-        _ => &COMPANIONS,
+        nick::PIXEL | nick::LPIXEL => &FIRST_BYTES[..1],
+        _ => &FIRST_BYTES,
     }
 }
 
-pub fn way_cell(block: &Block, companion: u8, byte: u8) -> Cell {
+pub fn mode_cell(block: &Block, first: u8, byte: u8) -> Cell {
     match block.video_mode() {
         nick::PIXEL | nick::LPIXEL => Cell::graphics(block, byte),
-        nick::ATTR => Cell::attribute(companion, byte),
-        _ => Cell::character(block, companion, byte),
+        nick::ATTR => Cell::attribute(first, byte),
+        _ => Cell::character(block, first, byte),
     }
 }
 
-fn digest_way(mode: u8, colour_mode: u8) -> Digest {
+fn digest_mode(mode: u8, colour_mode: u8) -> Digest {
     let width = if mode == nick::PIXEL { 8 } else { 16 };
     let mut digest = Digest::new();
     for bits in 0..16 {
-        let block = way_block(mode, colour_mode, bits / 4, bits % 4);
-        for &companion in companions(mode) {
+        let block = mode_block(mode, colour_mode, bits / 4, bits % 4);
+        for &first in first_bytes(mode) {
             for byte in 0..=255 {
-                let cell = way_cell(&block, companion, byte);
+                let cell = mode_cell(&block, first, byte);
                 for dot in 0..width {
                     match cell.index(dot, width) {
                         Some(index) => digest.byte(index),

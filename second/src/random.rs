@@ -121,19 +121,19 @@ fn bit(byte: u8, n: u8) -> bool {
     byte >> n & 1 == 1
 }
 
-/// The first bytes of a case: flavours, state, height and trouble.
+/// The first bytes of a case: edits, state, height and faults.
 pub struct Head {
-    pub flavour: u8,
+    pub edits: u8,
     pub call: u8,
     pub flags: u8,
     pub state: State,
     pub height: u32,
-    trouble: [u8; 10],
+    faults: [u8; 10],
 }
 
 impl Head {
     pub fn draw(random: &mut Random) -> Head {
-        let flavour = random.byte();
+        let edits = random.byte();
         let call = random.byte();
         let [fixbias, border, mut lpl, mut lph, flags] = random.bytes();
         let mut number = random.word() % 4096;
@@ -142,7 +142,7 @@ impl Head {
         let left = random.word();
         let block = Block(random.bytes());
         let heights = random.bytes();
-        let trouble = random.bytes();
+        let faults = random.bytes();
 
         if bit(flags, 4) {
             lph = lph % 64 + 192;
@@ -166,38 +166,38 @@ impl Head {
             virq_low: bit(flags, 1),
             sync_on: bit(flags, 2),
         };
-        Head { flavour, call, flags, state, height: drawn_height(heights), trouble }
+        Head { edits, call, flags, state, height: drawn_height(heights), faults }
     }
 
-    /// Whether trouble number n (0 to 6) befalls the case.
-    fn has_trouble(&self, n: u8) -> bool {
-        match self.trouble[0] {
-            0..=31 => self.trouble[1] % 7 == n,
-            32..=63 => bit(self.trouble[1], n),
+    /// Whether the case has fault n (0 to 6).
+    fn has_fault(&self, n: u8) -> bool {
+        match self.faults[0] {
+            0..=31 => self.faults[1] % 7 == n,
+            32..=63 => bit(self.faults[1], n),
             _ => false,
         }
     }
 
-    /// The state with troubles 0 and 1.
-    pub fn troubled_state(&self) -> State {
+    /// The state with faults 0 and 1.
+    pub fn faulty_state(&self) -> State {
         let mut state = self.state;
-        let [_, _, kind, size, ..] = self.trouble;
+        let [_, _, kind, size, ..] = self.faults;
         let size = u16::from(size) * 64;
-        if self.has_trouble(0) {
+        if self.has_fault(0) {
             state.left = 257 + u16::from(kind % 4) * size;
         }
-        if self.has_trouble(1) {
+        if self.has_fault(1) {
             state.number = 4096 + u16::from(kind / 4 % 4) * size;
         }
         state
     }
 
-    /// RAM length, with trouble 2.
+    /// RAM length, with fault 2.
     pub fn ram_length(&self) -> usize {
-        if !self.has_trouble(2) {
+        if !self.has_fault(2) {
             return RAM_BYTES;
         }
-        match self.trouble[4] % 4 {
+        match self.faults[4] % 4 {
             0 => 65_535,
             1 => 0,
             2 => 65_537,
@@ -216,7 +216,7 @@ fn drawn_height(bytes: [u8; 3]) -> u32 {
     }
 }
 
-/// Lengths for one buffer in trouble.
+/// Lengths for one buffer with a fault.
 fn wrong_length(right: usize, unit: usize, zeroth: usize, kind: u8) -> usize {
     match kind % 4 {
         0 => right + 1,
@@ -238,25 +238,25 @@ pub struct Call {
 }
 
 impl Call {
-    /// The painting call of a case, with its troubles.
+    /// The painting call of a case, with its faults.
     pub fn of(head: &Head) -> Call {
         let single = head.call % 8 == 0;
         let (asked, lines) = heights(head, single);
         let mut dots = 736 * lines;
         let mut records = BYTES_PER_RECORD * lines;
         let mut external = if bit(head.call, 3) { 736 * lines } else { 0 };
-        if head.has_trouble(4) {
-            dots = wrong_length(dots, 736, 0, head.trouble[7]);
+        if head.has_fault(4) {
+            dots = wrong_length(dots, 736, 0, head.faults[7]);
         }
-        if head.has_trouble(5) {
-            records = wrong_length(records, BYTES_PER_RECORD, 0, head.trouble[8]);
+        if head.has_fault(5) {
+            records = wrong_length(records, BYTES_PER_RECORD, 0, head.faults[8]);
         }
-        if head.has_trouble(6) {
-            external = wrong_length(736 * lines, 736, 1, head.trouble[9]);
+        if head.has_fault(6) {
+            external = wrong_length(736 * lines, 736, 1, head.faults[9]);
         }
         Call {
             single,
-            state: head.troubled_state(),
+            state: head.faulty_state(),
             asked,
             ram: head.ram_length(),
             dots: dots.min(DOT_BUFFER),
@@ -272,14 +272,14 @@ fn heights(head: &Head, single: bool) -> (u32, usize) {
         return (1, 1);
     }
     let drawn = head.height;
-    if !head.has_trouble(3) {
+    if !head.has_fault(3) {
         return (drawn, drawn as usize);
     }
-    match head.trouble[5] % 4 {
+    match head.faults[5] % 4 {
         0 => (0, 0),
         1 => (1025, 1025),
         2 => (0, drawn as usize),
-        _ => (1025 + 256 * u32::from(head.trouble[6]), drawn as usize),
+        _ => (1025 + 256 * u32::from(head.faults[6]), drawn as usize),
     }
 }
 
@@ -289,46 +289,46 @@ pub fn draw_plain_ram(random: &mut Random, ram: &mut [u8]) {
     ram[RAM_BYTES] = 0;
 }
 
-/// Draws RAM, then edits its blocks by the flavour.
-pub fn draw_ram(random: &mut Random, flavour: u8, ram: &mut [u8]) {
+/// Draws RAM, then edits its blocks by the edits.
+pub fn draw_ram(random: &mut Random, edits: u8, ram: &mut [u8]) {
     draw_plain_ram(random, ram);
     for (n, block) in ram[..RAM_BYTES].chunks_exact_mut(16).enumerate() {
-        edit_block(flavour, n, block);
+        edit_block(edits, n, block);
     }
 }
 
-fn edit_block(flavour: u8, n: usize, block: &mut [u8]) {
+fn edit_block(edits: u8, n: usize, block: &mut [u8]) {
     // Short mode lines.
-    if bit(flavour, 0) {
+    if bit(edits, 0) {
         block[0] = 252 + block[0] % 4;
     }
     // Pointers near the end.
-    if bit(flavour, 1) {
+    if bit(edits, 1) {
         block[4] = 192 + block[4] % 64;
         block[5] = 255;
         block[6] = 192 + block[6] % 64;
         block[7] = 255;
     }
     // Usual margins.
-    if bit(flavour, 2) {
+    if bit(edits, 2) {
         block[2] = block[2] / 64 * 64 + 8 + block[2] % 8;
         block[3] = block[3] / 64 * 64 + 46 + block[3] % 8;
     }
     // VSYNC in three of four blocks.
-    if bit(flavour, 3) && n % 4 != 0 {
+    if bit(edits, 3) && n % 4 != 0 {
         block[1] = block[1] / 16 * 16 + block[1] % 2;
     }
     // Margins about the right edge.
-    if bit(flavour, 4) && n % 2 == 1 {
+    if bit(edits, 4) && n % 2 == 1 {
         block[2] = block[2] / 64 * 64 + 50 + block[2] % 8;
         block[3] = block[3] / 64 * 64 + 50 + block[3] % 8;
     }
     // Long tables.
-    if bit(flavour, 5) && n % 8 != 7 {
+    if bit(edits, 5) && n % 8 != 7 {
         block[1] = block[1] / 2 * 2;
     }
     // 256 scanlines.
-    if bit(flavour, 6) && n % 4 == 1 {
+    if bit(edits, 6) && n % 4 == 1 {
         block[0] = 0;
     }
 }
@@ -400,9 +400,9 @@ impl Write {
 }
 
 /// Clears RELOAD in all blocks, in most, or in none.
-pub fn lengthen_table(flavour: u8, ram: &mut [u8]) {
+pub fn lengthen_table(edits: u8, ram: &mut [u8]) {
     for (n, block) in ram[..RAM_BYTES].chunks_exact_mut(16).enumerate() {
-        let clear = match flavour % 8 {
+        let clear = match edits % 8 {
             0 => true,
             1..=3 => n % 16 != 0,
             _ => false,

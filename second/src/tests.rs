@@ -1,7 +1,7 @@
 //! The fixed examples, the refusals, the slips, and comparisons with a
 //! slow model that follows the paper sentence by sentence.
 
-use crate::families::{companions, draw_frame, way_block, way_cell, Buffers};
+use crate::families::{first_bytes, draw_frame, mode_block, mode_cell, Buffers};
 use crate::nick::*;
 use crate::random::*;
 
@@ -628,7 +628,7 @@ struct SlowLine {
 }
 
 /// Dots of one display byte, `width` of them.
-fn slow_byte(s: &State, byte: u8, width: usize, companion: Option<u8>, named: Vec<u16>) -> Vec<SlowDot> {
+fn slow_byte(s: &State, byte: u8, width: usize, first: Option<u8>, named: Vec<u16>) -> Vec<SlowDot> {
     let mode = s.block.0[1] / 2 % 8;
     let colour_mode = if mode == 2 { 0 } else { s.block.0[1] / 32 % 4 };
     let (lm, rm) = (s.block.0[2], s.block.0[3]);
@@ -640,7 +640,7 @@ fn slow_byte(s: &State, byte: u8, width: usize, companion: Option<u8>, named: Ve
     for bits in &pixels {
         let mut index = raw_index(byte, bits);
         if mode == 2 {
-            let attribute = u32::from(companion.unwrap());
+            let attribute = u32::from(first.unwrap());
             index = if index == 0 { attribute / 16 } else { attribute % 16 };
         } else if colour_mode == 0 && (mode == 1 || mode == 7) {
             if lm >= 128 && bits[0] == 7 {
@@ -656,7 +656,7 @@ fn slow_byte(s: &State, byte: u8, width: usize, companion: Option<u8>, named: Ve
                 index += 4;
             }
         } else if colour_mode == 0 {
-            let code = companion.unwrap();
+            let code = first.unwrap();
             if rm >= 128 && code >= 128 {
                 index += 2;
             }
@@ -899,21 +899,21 @@ fn colour_groups_agree_with_painting() {
     for mode in [PIXEL, LPIXEL, ATTR, CH256, CH128, CH64] {
         let width = if mode == PIXEL { 8 } else { 16 };
         for (colour_mode, bits) in (0..4).flat_map(|c| (0..16).map(move |b| (c, b))) {
-            let mut bytes = way_block(mode, colour_mode, bits / 4, bits % 4);
+            let mut bytes = mode_block(mode, colour_mode, bits / 4, bits % 4);
             bytes.0[4..8].copy_from_slice(&[0xE8, 3, 100, 0]);
             bytes.0[8..].copy_from_slice(&SAME);
             let mut ram = table(&[bytes.0]);
-            for &companion in companions(mode) {
+            for &first in first_bytes(mode) {
                 for byte in (0..=255).step_by(3) {
                     let address = match mode {
                         PIXEL | LPIXEL => 1000,
                         ATTR => 100,
-                        _ => usize::from(font_address(mode, 100, companion)),
+                        _ => usize::from(font_address(mode, 100, first)),
                     };
-                    ram[1000] = companion;
+                    ram[1000] = first;
                     ram[address] = byte;
                     let painted = paint(&mut numbered(), &ram, 1);
-                    let cell = way_cell(&bytes, companion, byte);
+                    let cell = mode_cell(&bytes, first, byte);
                     for x in 0..width {
                         assert_eq!(painted.dots[x], cell.index(x, width).unwrap_or(byte));
                     }

@@ -90,7 +90,7 @@ fn scan_of(bytes: &[u8], k: u8) -> Scan
     }
 }
 
-// The state of the head's bytes, before any trouble.
+// The state of the head's bytes, before any fault.
 fn state_of(bytes: &[u8], k: u8) -> State
     requires { ⌜ length (now bytes) ≡ 44 ⌝ }
     ensures { λ r. ⌜ r .scan .number < 4096 ⌝ }

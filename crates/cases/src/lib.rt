@@ -1,11 +1,11 @@
 // The random cases of second/README.md, for the programs that run the proved code on them: the generator, the head of a case,
 // video RAM, the digest, and the lines that are printed.
 mod digest;
+mod faults;
 mod head;
 mod print;
 mod ram;
 mod source;
-mod trouble;
 
 pub use digest::START;
 pub use digest::digest_byte;
@@ -14,6 +14,9 @@ pub use digest::digest_given;
 pub use digest::digest_number;
 pub use digest::digest_state;
 pub use digest::digest_word;
+pub use faults::faulty_state;
+pub use faults::has_fault;
+pub use faults::ram_length;
 pub use head::Case;
 pub use head::Head;
 pub use head::begin;
@@ -25,6 +28,3 @@ pub use ram::draw_plain_ram;
 pub use ram::no_reload;
 pub use source::Source;
 pub use source::draw;
-pub use trouble::befalls;
-pub use trouble::ram_length;
-pub use trouble::troubled;

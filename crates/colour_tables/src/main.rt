@@ -10,8 +10,8 @@ use nick::Block;
 use nick::Pixel;
 use nick::Registers;
 
-// Attributes and codes that go with each display byte.
-const COMPANIONS: [u8; 6] = [0, 64, 128, 192, 27, 255];
+// Attributes and codes, which are fetched before the display byte.
+const FIRST_BYTES: [u8; 6] = [0, 64, 128, 192, 27, 255];
 
 // Values of FIXBIAS for the palette.
 const BIASES: [u8; 6] = [0, 21, 31, 32, 96, 255];
@@ -41,11 +41,11 @@ fn falling() -> Block {
 }
 
 // The cell of a display byte in a video mode.
-fn cell_in(mode: u8, block: Block, companion: u8, byte: u8) -> Cell {
+fn cell_in(mode: u8, block: Block, first: u8, byte: u8) -> Cell {
     match mode {
         1 | 7 => colour::graphics_cell(block, byte),
-        2 => colour::attribute_cell(companion, byte),
-        _ => colour::character_cell(block, companion, byte),
+        2 => colour::attribute_cell(first, byte),
+        _ => colour::character_cell(block, first, byte),
     }
 }
 
@@ -82,19 +82,19 @@ fn digest_cell(d: u64, mode: u8, cell: Cell) -> u64 {
 }
 
 // Every display byte beside one attribute or code.
-fn digest_bytes(d: u64, mode: u8, block: Block, companion: u8) -> u64 {
+fn digest_bytes(d: u64, mode: u8, block: Block, first: u8) -> u64 {
     let mut d = d;
     for v in 0..256u16 {
-        d = digest_cell(d, mode, cell_in(mode, block, companion, v as u8));
+        d = digest_cell(d, mode, cell_in(mode, block, first, v as u8));
     }
     d
 }
 
 // Every attribute or code.
-fn digest_companions(d: u64, mode: u8, block: Block) -> u64 {
+fn digest_firsts(d: u64, mode: u8, block: Block) -> u64 {
     let mut d = d;
     for i in 0..6 {
-        d = digest_bytes(d, mode, block, COMPANIONS[i]);
+        d = digest_bytes(d, mode, block, FIRST_BYTES[i]);
     }
     d
 }
@@ -103,7 +103,7 @@ fn digest_companions(d: u64, mode: u8, block: Block) -> u64 {
 fn digest_block(d: u64, mode: u8, block: Block) -> u64 {
     match mode {
         1 | 7 => digest_bytes(d, mode, block, 0),
-        _ => digest_companions(d, mode, block),
+        _ => digest_firsts(d, mode, block),
     }
 }
 

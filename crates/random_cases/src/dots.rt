@@ -116,7 +116,7 @@ pub fn run_case(case: u32, digest: u64, ram: &mut [u8], tally: &mut [u64]) -> u6
 {
     let drawn = cases::begin_with_ram(2, case, ram);
     let source = drawn.source;
-    let state = cases::troubled(drawn.head);
+    let state = cases::faulty_state(drawn.head);
     let end = cases::ram_length(drawn.head);
     run_questions(source, digest, state, &ram[0..end], tally)
 }

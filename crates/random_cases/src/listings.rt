@@ -125,7 +125,7 @@ pub fn run_case(case: u32, digest: u64, ram: &mut [u8], out: &mut [u8], tally: &
 {
     let drawn = cases::begin(3, case);
     let head = drawn.head;
-    let state = cases::troubled(head);
+    let state = cases::faulty_state(head);
     let mut bytes = [0u8; 2];
     let source = cases::draw(drawn.source, &mut bytes);
     cases::draw_plain_ram(source, ram);

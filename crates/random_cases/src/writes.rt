@@ -47,7 +47,7 @@ fn run_write(turn: Turn, tally: &mut [u64]) -> Turn {
 pub fn run_case(case: u32, digest: u64, tally: &mut [u64]) -> u64 {
     let drawn = cases::begin(5, case);
     let source = drawn.source;
-    let state = cases::troubled(drawn.head);
+    let state = cases::faulty_state(drawn.head);
     let mut turn = Turn {
         source,
         state,

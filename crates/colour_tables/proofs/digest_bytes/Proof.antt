@@ -5,10 +5,10 @@ use Rattle.colour_tables.proofs.digest_bytes.Statement.{statement}
 use Rattle.colour_tables.proofs.digest_bytes.Tie as tie
 
 abbrev Inv-loop : tie.InvT-loop
-Inv-loop d mode block companion d₀ v₀ d' v = v ≤ 256
+Inv-loop d mode block first d₀ v₀ d' v = v ≤ 256
 
 abbrev μ-loop : tie.MeasureT-loop
-μ-loop d mode block companion d₀ v₀ d' v = 256 - v
+μ-loop d mode block first d₀ v₀ d' v = 256 - v
 
 loop-holds : tie.Need-loop-holds Inv-loop μ-loop
 loop-holds c = search needs

@@ -32,7 +32,7 @@ fn wide(byte: u8) -> usize
     byte as usize
 }
 
-// Both heights, wrong by trouble 3.
+// Both heights, wrong by fault 3.
 fn heights_of(head: Head) -> Heights
     requires { ⌜ Drawn head ⌝ }
     ensures { λ r. ⌜ r .lent ≤ 1025 ⌝ }
@@ -41,7 +41,7 @@ fn heights_of(head: Head) -> Heights
     if head.g % 8 == 0 {
         return Heights { asked: 1, lent: 1 };
     }
-    if !cases::befalls(head, 3) {
+    if !cases::has_fault(head, 3) {
         return Heights { asked: h, lent: h };
     }
     let t = head.t;
@@ -72,51 +72,51 @@ fn wrong(kind: u8, right: usize, unit: usize, other: usize) -> usize
     }
 }
 
-// The length of dots, wrong by trouble 4.
+// The length of dots, wrong by fault 4.
 fn dots_length(head: Head, lent: usize) -> usize
     requires { ⌜ lent ≤ 1025 ⌝ }
     ensures { λ r. ⌜ r ≤ 754400 ⌝ }
 {
     let right = 736 * lent;
-    if cases::befalls(head, 4) {
+    if cases::has_fault(head, 4) {
         let t = head.t;
         return smaller(wrong(t[7], right, 736, 0), 754400);
     }
     right
 }
 
-// The length of records, wrong by trouble 5.
+// The length of records, wrong by fault 5.
 fn records_length(head: Head, lent: usize) -> usize
     requires { ⌜ lent ≤ 1025 ⌝ }
     ensures { λ r. ⌜ r ≤ recordBytes * 1026 ⌝ }
 {
     let right = RECORD_BYTES * lent;
-    if cases::befalls(head, 5) {
+    if cases::has_fault(head, 5) {
         let t = head.t;
         return wrong(t[8], right, 4, 0);
     }
     right
 }
 
-// The length of external input: none unless bit 3 of G is set; wrong by trouble 6.
+// The length of external input: none unless bit 3 of G is set; wrong by fault 6.
 fn external_length(head: Head, lent: usize) -> usize
     requires { ⌜ lent ≤ 1025 ⌝ }
     ensures { λ r. ⌜ r ≤ 754400 ⌝ }
 {
     let right = 736 * lent;
-    if cases::befalls(head, 6) {
+    if cases::has_fault(head, 6) {
         let t = head.t;
         return smaller(wrong(t[9], right, 736, 1), 754400);
     }
     if head.g / 8 % 2 == 1 { right } else { 0 }
 }
 
-// The call of a case, with its troubles.
+// The call of a case, with its faults.
 pub fn call_of(head: Head) -> Call
     requires { ⌜ Drawn head ⌝ }
     ensures { λ r. ⌜ Lent r ⌝ }
 {
-    let state = cases::troubled(head);
+    let state = cases::faulty_state(head);
     let heights = heights_of(head);
     Call {
         single: head.g % 8 == 0,

@@ -15,8 +15,8 @@ abbrev μ-loop : tie.MeasureT-loop
 begin-requires : tie.Need-begin-requires Inv-loop μ-loop
 begin-requires c κs = search needs
 
-troubled-requires : tie.Need-troubled-requires Inv-loop μ-loop
-troubled-requires c κs = search needs
+faulty-state-requires : tie.Need-faulty-state-requires Inv-loop μ-loop
+faulty-state-requires c κs = search needs
 
 digest-state-requires : tie.Need-digest-state-requires Inv-loop μ-loop
 digest-state-requires c κs = search needs
@@ -49,7 +49,7 @@ run-case-spec =
     Inv-loop
     μ-loop
     begin-requires
-    troubled-requires
+    faulty-state-requires
     digest-state-requires
     loop-holds
     run-write-requires

@@ -1,10 +1,10 @@
-// The troubles that every family has.
+// The faults that every family has.
 ghost use Prim.Native.Nat.{_≤_};
 use crate::head::Head;
 use nick::State;
 
-// Whether trouble n befalls the case.
-pub fn befalls(head: Head, n: u8) -> bool
+// Whether the case has fault n.
+pub fn has_fault(head: Head, n: u8) -> bool
     requires { ⌜ n ≤ 6 ⌝ }
 {
     let t = head.t;
@@ -17,7 +17,7 @@ pub fn befalls(head: Head, n: u8) -> bool
     false
 }
 
-// How far a trouble exceeds the bound: T2's two bits times T3 times 64.
+// How far a fault exceeds the bound: T2's two bits times T3 times 64.
 fn excess(bits: u8, t3: u8) -> u16
     ensures { λ r. ⌜ r ≤ 48960 ⌝ }
 {
@@ -29,41 +29,41 @@ fn excess(bits: u8, t3: u8) -> u16
     }
 }
 
-// The scanlines left, over 256 by trouble 0.
-fn troubled_left(head: Head) -> u16 {
+// The scanlines left, over 256 by fault 0.
+fn faulty_left(head: Head) -> u16 {
     let t = head.t;
-    if befalls(head, 0) {
+    if has_fault(head, 0) {
         257 + excess(t[2], t[3])
     } else {
         head.state.scan.left
     }
 }
 
-// The block number, over 4,095 by trouble 1.
-fn troubled_number(head: Head) -> u16 {
+// The block number, over 4,095 by fault 1.
+fn faulty_number(head: Head) -> u16 {
     let t = head.t;
-    if befalls(head, 1) {
+    if has_fault(head, 1) {
         4096 + excess(t[2] / 4, t[3])
     } else {
         head.state.scan.number
     }
 }
 
-// The state after troubles 0 and 1.
-pub fn troubled(head: Head) -> State {
+// The state after faults 0 and 1.
+pub fn faulty_state(head: Head) -> State {
     let mut state = head.state;
     let mut scan = state.scan;
-    scan.left = troubled_left(head);
-    scan.number = troubled_number(head);
+    scan.left = faulty_left(head);
+    scan.number = faulty_number(head);
     state.scan = scan;
     state
 }
 
-// The length of RAM lent, wrong by trouble 2.
+// The length of RAM lent, wrong by fault 2.
 pub fn ram_length(head: Head) -> usize
     ensures { λ r. ⌜ r ≤ 65537 ⌝ }
 {
-    if !befalls(head, 2) {
+    if !has_fault(head, 2) {
         return 65536;
     }
     let t4 = head.t[4];

@@ -1,8 +1,8 @@
--- `colour_tables::digest_companions`: the loop takes each place of the table, in order.
+-- `colour_tables::digest_firsts`: the loop takes each place of the table, in order.
 use Prim.Native.Nat.{_≤_, _-_}
 use borrow.Author.Needs.{needs}
-use Rattle.colour_tables.proofs.digest_companions.Statement.{statement}
-use Rattle.colour_tables.proofs.digest_companions.Tie as tie
+use Rattle.colour_tables.proofs.digest_firsts.Statement.{statement}
+use Rattle.colour_tables.proofs.digest_firsts.Tie as tie
 
 abbrev Inv-loop : tie.InvT-loop
 Inv-loop d mode block d₀ i₀ d' i = i ≤ 6
@@ -31,8 +31,8 @@ loop-again c = search needs
 returns : tie.Need-returns Inv-loop μ-loop
 returns c = search needs
 
-pub digest-companions-spec : {M : Type 1} → statement M
-digest-companions-spec =
+pub digest-firsts-spec : {M : Type 1} → statement M
+digest-firsts-spec =
     tie.close
     (tie.spec
     Inv-loop
