@@ -1,12 +1,12 @@
 -- Laws on the direct answer as a whole: a dot shown from the bytes at its addresses is the rules' dot, and the refusals.
-use mathlib.Core.Path.{_≡_, refl, _∙_}
+use mathlib.Core.Path.{_≡_, ap, sym, refl, _∙_}
 use mathlib.Core.Bool.{Bool, true, false, cond}
 use mathlib.Core.List.{List, [], _∷_, map}
 use Prim.Native.Nat.{ℕ, _-_, _/_, _%_, _≤_, _<_}
 use native.Mathlib.Decide.{decLt}
 use native.Mathlib.Omega.{arith}
 use lib.Dec.{eqb}
-use borrow.Author.Tests.{ne-eqb, lt-ltb, le-ltb}
+use borrow.Author.Tests.{ne-eqb}
 use Rattle.nick.specs.Numbers.{byteAt}
 use Rattle.nick.specs.Blocks.{begun}
 use Rattle.nick.specs.Slots.{Mode, VSYNC, PIXEL, ATTR, CH, UNUSED, LPIXEL, modeNumber, modeNumbered, modeOf, dotAddresses}
@@ -20,12 +20,12 @@ use Rattle.nick.specs.declared.Registers.{Registers}
 use Rattle.nick.specs.declared.Pointers.{Pointers}
 use Rattle.nick.specs.declared.Block.{Block}
 use Rattle.nick.specs.declared.Scan.{Scan}
+use Rattle.nick.specs.declared.Pixel.{Pixel}
 use Rattle.nick.specs.declared.State.{State}
 use Rattle.lists.proofs.Below.{below-two, below-eight}
 use Rattle.laws.proofs.LineDots.{line-dot}
 use Rattle.colour.specs.Cell.{graphicsCell, cellPixel}
-use Rattle.fetch.specs.Fetches.{fetchedIn, slotPixel}
-use Rattle.fetch.proofs.SlotDots.{mode-dot}
+use Rattle.fetch.proofs.SlotDots.{pixel-dot, mode-dot}
 use Rattle.direct.specs.Answers.{cellFrom, byteColour, sourcedColour, dotAnswer}
 
 -- modes 0, 1, 6 and 7 have one byte
@@ -69,17 +69,6 @@ module _
   shown-is (first ∷ []) = rw (pixel-one (modeNumber b) (omega arith))
   shown-is (first ∷ second ∷ more) = rw (pixel-one (modeNumber b) (omega arith))
 
-  -- each half of a PIXEL slot has its byte
-  halves : Dec (j < 8) → shownBy PIXEL (map (byteAt ram) (dotAddresses PIXEL ram p j)) ≡ mixedColour g b (slotPixel (fetchedIn PIXEL ram b p) j) e
-  halves (yes l) =
-      let half : j / 8 ≡ 0 = omega arith in
-      let rest : j % 8 ≡ j = omega arith in
-      rw (half, rest, lt-ltb j 8 l)
-  halves (no l) =
-      let half : j / 8 ≡ 1 = omega arith in
-      let rest : j % 8 ≡ j - 8 = omega arith in
-      rw (half, rest, le-ltb j 8 (omega arith))
-
   by-mode :
       (active : Bool) (m : Mode)
       → shownBy m (map (byteAt ram) (cond active (dotAddresses m ram p j) []))
@@ -91,7 +80,7 @@ module _
   by-mode false UNUSED = refl
   by-mode false LPIXEL = refl
   by-mode true VSYNC = refl
-  by-mode true PIXEL = halves (decLt j 8) ∙ mode-dot g ram b p true PIXEL j e inside low
+  by-mode true PIXEL = ap (λ (q : Pixel). mixedColour g b q e) (sym (pixel-dot g ram b p j inside)) ∙ mode-dot g ram b p true PIXEL j e inside low
   by-mode true ATTR = mode-dot g ram b p true ATTR j e inside low
   by-mode true (CH width) = mode-dot g ram b p true (CH width) j e inside low
   by-mode true UNUSED = refl

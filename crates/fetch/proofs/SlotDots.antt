@@ -1,23 +1,23 @@
 -- What a slot fetched shows as the rules say, in every mode.
 use mathlib.Core.Path.{_≡_, refl, sym, ap, _∙_}
 use mathlib.Core.Bool.{Bool, true, false, cond}
-use mathlib.Core.List.{List, [], _∷_, map}
+use mathlib.Core.List.{List, [], map}
 use Prim.Native.Nat.{ℕ, _-_, _/_, _%_, _<_, _≤_}
 use native.Mathlib.Decide.{decLt}
 use native.Mathlib.Omega.{arith}
 use borrow.Author.Tests.{lt-ltb, le-ltb}
 use lib.Dec.{eqb, ltb}
 use lib.ListN.{length, getD}
-use Rattle.nick.specs.Numbers.{up, byteAt}
+use Rattle.nick.specs.Numbers.{byteAt}
 use Rattle.nick.specs.Slots.{Mode, VSYNC, PIXEL, ATTR, CH, UNUSED, LPIXEL, fontAddress, slotFetches, slotPointers, dotAddresses}
-use Rattle.nick.specs.Colour.{two, pixelsIn, sharing, coloursOf, graphicsPixel, pixelOf, characterAdded, attributePixel, dotIn}
+use Rattle.nick.specs.Colour.{two, coloursOf, graphicsPixel, pixelOf, characterAdded, attributePixel, dotIn}
 use Rattle.nick.specs.External.{mixedColour, dotColour}
 use Rattle.nick.specs.Sync.{syncs}
 use Rattle.nick.specs.declared.Registers.{Registers}
 use Rattle.nick.specs.declared.Pointers.{Pointers}
 use Rattle.nick.specs.declared.Block.{Block}
 use Rattle.nick.specs.declared.Pixel.{Pixel}
-use Rattle.colour.specs.Cell.{cellPixel, paletteNumber}
+use Rattle.colour.specs.Cell.{graphicsCell, cellPixel, paletteNumber}
 use Rattle.colour.proofs.Cells.{graphics-pixel, character-pixel, attribute-pixel, sharing-halves, cell-below}
 use Rattle.fetch.specs.Fetches.{fetchedIn, fetchedAt, slotPixel}
 use Rattle.fetch.specs.declared.Fetched.{Fetched}
@@ -35,17 +35,19 @@ slot-below f j =
 
 module _ (g : Registers) (ram : List ℕ) (b : Block) (p : Pointers) where
   -- the pixel of a PIXEL slot: its byte by its half of the slot, its place in the byte by the rest
-  pixel-dot : (j : ℕ) → j < 16 → Dec (j < 8)
-      → slotPixel (fetchedIn PIXEL ram b p) j
-      ≡ graphicsPixel (coloursOf b) b (byteAt ram (getD (p .ld1 ∷ up 1 (p .ld1) ∷ []) (j / 8) 0)) (sharing (pixelsIn (coloursOf b)) 8 (j % 8))
-  pixel-dot j h (yes l) =
-      let half : j / 8 ≡ 0 = omega arith in
-      let rest : j % 8 ≡ j = omega arith in
-      rw (half, rest, lt-ltb j 8 l) (graphics-pixel b (byteAt ram (p .ld1)) j)
-  pixel-dot j h (no l) =
-      let half : j / 8 ≡ 1 = omega arith in
-      let rest : j % 8 ≡ j - 8 = omega arith in
-      rw (half, rest, le-ltb j 8 (omega arith)) (graphics-pixel b (byteAt ram (up 1 (p .ld1))) (j - 8))
+  pub pixel-dot : (j : ℕ) → j < 16
+      → slotPixel (fetchedIn PIXEL ram b p) j ≡ cellPixel (graphicsCell b (byteAt ram (getD (slotFetches PIXEL ram p) (j / 8) 0))) (j % 8)
+  pixel-dot j h = go (decLt j 8)
+    where
+      go : Dec (j < 8) → slotPixel (fetchedIn PIXEL ram b p) j ≡ cellPixel (graphicsCell b (byteAt ram (getD (slotFetches PIXEL ram p) (j / 8) 0))) (j % 8)
+      go (yes l) =
+          let half : j / 8 ≡ 0 = omega arith in
+          let rest : j % 8 ≡ j = omega arith in
+          rw (half, rest, lt-ltb j 8 l)
+      go (no l) =
+          let half : j / 8 ≡ 1 = omega arith in
+          let rest : j % 8 ≡ j - 8 = omega arith in
+          rw (half, rest, le-ltb j 8 (omega arith))
 
   -- a dot of a slot in a video mode
   pub mode-dot : (active : Bool) (m : Mode) (j e : ℕ) → j < 16 → byteAt ram (p .ld1) < 256
@@ -58,7 +60,9 @@ module _ (g : Registers) (ram : List ℕ) (b : Block) (p : Pointers) where
   mode-dot false UNUSED j e h l = refl
   mode-dot false LPIXEL j e h l = refl
   mode-dot true VSYNC j e h l = refl
-  mode-dot true PIXEL j e h l = ap (λ (q : Pixel). mixedColour g b q e) (pixel-dot j h (decLt j 8))
+  mode-dot true PIXEL j e h l =
+      let byte = byteAt ram (getD (slotFetches PIXEL ram p) (j / 8) 0) in
+      ap (λ (q : Pixel). mixedColour g b q e) (pixel-dot j h ∙ graphics-pixel b byte (j % 8))
   mode-dot true ATTR j e h l =
       let attribute = byteAt ram (p .ld1) in
       let byte = byteAt ram (p .ld2) in

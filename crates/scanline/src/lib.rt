@@ -80,7 +80,7 @@ fn slots_in_order(
     slot
 }
 
-// Paints the 46 dot slots of a scanline that has begun; where no slot fetches, all at once.
+// Paints the 46 dot slots of a scanline that has begun; where no slot fetches, all at once, since much of a frame is such scanlines.
 fn paint_slots(
     registers: Registers,
     ram: &[u8],
