@@ -117,7 +117,7 @@ fn load_block(registers: Registers, ram: &[u8], number: u16) -> Scan
 }
 
 // The scan after a load.
-pub fn load(registers: Registers, ram: &[u8], scan: Scan) -> Scan
+fn load(registers: Registers, ram: &[u8], scan: Scan) -> Scan
     requires { ⌜ (length (now ram) ≡ 65536) × (scan .number < 4096) ⌝ }
     ensures { λ r. ⌜ r ≡ loaded registers (loadedNumber registers scan) (blockAt (now (ram .entry)) (loadedNumber registers scan)) ⌝ }
 {
@@ -126,7 +126,7 @@ pub fn load(registers: Registers, ram: &[u8], scan: Scan) -> Scan
 }
 
 // The scan of a mode line that goes on.
-pub fn resume(scan: Scan) -> Scan
+fn resume(scan: Scan) -> Scan
     ensures { λ r. ⌜ r ≡ continued scan ⌝ }
 {
     let block = scan.block;

@@ -24,7 +24,7 @@ use nick::Registers;
 use nick::Scan;
 
 // By how much LD1 and LD2 go up at an active slot, and LD2 at a scanline's end.
-pub struct Steps {
+struct Steps {
     pub ld1: u16,
     pub ld2: u16,
     pub line: u16,
@@ -44,7 +44,7 @@ fn steps_by(ld1: u16, ld2: u16, line: u16) -> Steps
 }
 
 // The steps of a video mode.
-pub fn steps_of(mode: u8) -> Steps
+fn steps_of(mode: u8) -> Steps
     requires { ⌜ mode < 8 ⌝ }
     ensures { λ r. ⌜ StepsOf (modeNumbered mode) r ⌝ }
 {
