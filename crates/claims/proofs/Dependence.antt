@@ -8,7 +8,7 @@ use Rattle.nick.specs.Scanline.{scanAfter}
 use Rattle.nick.specs.Refusals.{directRefusal}
 use Rattle.nick.specs.Direct.{namedIn, directColour, directNames, direct, loadedOnTheWay, blockBytesUsed, dependsOn}
 use Rattle.nick.specs.declared.State.{State}
-use Rattle.nick.proofs.Answers.{answered-determines}
+use Rattle.nick.proofs.Determined.{answered-determines}
 use Rattle.laws.proofs.ReadAlike.{same-first, same-rest, begun-step, scan-same, same-colour, same-names}
 use Rattle.claims.specs.Demand3.{Dependence, SameReturned}
 

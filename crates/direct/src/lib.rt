@@ -11,7 +11,7 @@ ghost use mathlib.Core.List.{map};
 ghost use lib.Dec.{eqb};
 ghost use Rattle.nick.specs.Numbers.{byteAt};
 ghost use Rattle.nick.specs.Slots.{modeNumber, modeOf};
-ghost use Rattle.direct.specs.Answers.{cellFrom, byteColour, sourcedColour, dotAnswer};
+ghost use Rattle.direct.specs.DotFromBytes.{cellFrom, byteColour, sourcedColour, dotAnswer};
 use blocks::ATTR;
 use blocks::CH64;
 use blocks::CH256;

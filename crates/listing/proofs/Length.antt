@@ -15,10 +15,10 @@ use Rattle.nick.specs.Listing.{modeName, colourCount, numbersAfterName, blockLi
 use Rattle.text.specs.Decimal.{TAB, decimal, tabbed}
 use Rattle.lists.proofs.Below.{below-eight}
 use Rattle.nick.specs.declared.Registers.{Registers}
-use Rattle.listing.specs.Lines.{lineAfter, wordLine}
+use Rattle.listing.specs.WrittenLines.{lineAfter, wordLine}
 use Rattle.text.proofs.Decimal.{decimal-length}
 use Rattle.listing.proofs.Pieces.{line-length, word-length, header, endTab, header-text, end-text}
-use Rattle.listing.proofs.Table.{listed-limit}
+use Rattle.listing.proofs.BlocksLeft.{listed-limit}
 
 -- every place of a list holds a byte, of a part of the list too
 abbrev pub Bytes : List ℕ → Type 0

@@ -1,5 +1,5 @@
 pub mod Pieces
-pub mod Lines
-pub mod Table
+pub mod FirstLines
+pub mod BlocksLeft
 pub mod Length
-pub mod Answers
+pub mod ListAnswers

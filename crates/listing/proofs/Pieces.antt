@@ -17,7 +17,7 @@ use Rattle.nick.specs.declared.Registers.{Registers}
 use Rattle.nick.specs.declared.Block.{Block}
 use Rattle.text.specs.Writing.{Room, Wrote}
 use Rattle.text.proofs.Fields.{field}
-use Rattle.listing.specs.Lines.{wordLine}
+use Rattle.listing.specs.WrittenLines.{wordLine}
 
 -- the names in six bytes each, and how many of the six are the name
 abbrev pub names : List ℕ

@@ -1,5 +1,5 @@
 pub mod Bits
-pub mod Modes
+pub mod ModeNumbers
 pub mod WellFormed
 pub mod Refusals
-pub mod Answers
+pub mod Determined

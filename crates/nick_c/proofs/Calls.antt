@@ -18,8 +18,8 @@ use Rattle.nick.specs.declared.Listed.{Listed}
 use Rattle.nick.specs.declared.State.{State}
 use Rattle.nick.specs.declared.Written.{Written}
 use Rattle.nick.specs.declared.Painted.{Painted}
-use Rattle.painting.specs.Frames.{Paints}
-use Rattle.listing.specs.Lists.{Lists}
+use Rattle.painting.specs.PaintedFrame.{Paints}
+use Rattle.listing.specs.ListCall.{Lists}
 use Rattle.listing.proofs.Length.{listing-bound}
 use Rattle.encoding.specs.Encoding.{encoded, stateOf}
 use Rattle.packing.specs.Packed.{packedAnswer, packedListed, lengthOf}

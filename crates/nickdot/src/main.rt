@@ -4,7 +4,7 @@ ghost use mathlib.Core.Path.{_≡_};
 ghost use lib.ListN.{length};
 ghost use Rattle.nick.specs.Numbers.{byteAt};
 ghost use Rattle.nick.specs.Direct.{answered};
-ghost use Rattle.nickdot.specs.Answers.{answerAfter};
+ghost use Rattle.nickdot.specs.DotAfterWrites.{answerAfter};
 use libc::STDOUT_FILENO;
 use nick::Answer;
 use nick::Sources;

@@ -2,7 +2,7 @@
 // nicklist RAM WRITES
 ghost use Prim.Native.Nat.{_≤_};
 ghost use lib.ListN.{length as List·length};
-ghost use Rattle.nicklist.specs.Lists.{ListsAfter};
+ghost use Rattle.nicklist.specs.ListingAfterWrites.{ListsAfter};
 use libc::STDOUT_FILENO;
 use nick::Listed;
 

@@ -9,7 +9,7 @@ ghost use mathlib.Core.Bool.{cond};
 ghost use lib.ListN.{length};
 ghost use Rattle.nick.specs.Sizes.{recordBytes};
 ghost use Rattle.nickpaint.specs.Arguments.{isClash, isInput, linesStamped, stamps};
-ghost use Rattle.nickpaint.specs.Paintings.{PaintsAfter};
+ghost use Rattle.nickpaint.specs.PaintingAfterWrites.{PaintsAfter};
 use files::RAM;
 use files::WRITES;
 use libc::STDOUT_FILENO;

@@ -15,7 +15,7 @@ use Rattle.nick.specs.declared.State.{State}
 use Rattle.laws.proofs.StatesAfter.{registers-kept}
 use Rattle.laws.proofs.Frames.{length-dots, length-records}
 use Rattle.laws.proofs.Paintings.{accepted-is, refused-is}
-use Rattle.painting.specs.Frames.{NextLine, Frame, Paints}
+use Rattle.painting.specs.PaintedFrame.{NextLine, Frame, Paints}
 
 -- what a loop over the lines keeps: after y of h lines from s, these are painted, and the rest of both buffers is as it was
 pub record Passed (s : State) (ram external : List ℕ) (h : ℕ) (dots₀ records₀ : List ℕ) (y : ℕ) (dots₁ records₁ : List ℕ) (t : State) : Type 0 where

@@ -1,3 +1,3 @@
-pub mod Table
+pub mod RefusalTable
 pub mod OwnLine
 pub mod FrameLines

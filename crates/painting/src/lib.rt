@@ -5,7 +5,7 @@ ghost use Prim.Native.Nat.{_+_, _*_, _<_, _≤_};
 ghost use lib.ListN.{length};
 ghost use Rattle.nick.specs.Sizes.{recordBytes};
 ghost use Rattle.nick.specs.Refusals.{Formed, Accepted, paintingRefusal};
-ghost use Rattle.painting.specs.Frames.{NextLine, Frame, Paints};
+ghost use Rattle.painting.specs.PaintedFrame.{NextLine, Frame, Paints};
 use lists::smaller;
 use nick::Painted;
 use nick::RECORD_BYTES;

@@ -4,7 +4,7 @@ ghost use mathlib.Core.Bool.{_&&_, not};
 ghost use lib.ListN.{length};
 ghost use Rattle.nick.specs.Sizes.{recordBytes};
 ghost use Rattle.nick.specs.Record.{flags, fetchingSlots};
-ghost use Rattle.records.specs.Records.{bytesOf};
+ghost use Rattle.records.specs.RecordBytes.{bytesOf};
 use blocks::UNUSED;
 use blocks::VSYNC;
 use blocks::has_vint;

@@ -35,7 +35,7 @@ use Rattle.nick.specs.declared.Registers.{Registers}
 use Rattle.nick.specs.declared.Pointers.{Pointers}
 use Rattle.nick.specs.declared.Block.{Block}
 use Rattle.nick.specs.declared.Scan.{Scan}
-use Rattle.scanline.specs.Lines.{slotsEnd}
+use Rattle.scanline.specs.PaintedLine.{slotsEnd}
 
 -- where byte 3 of the record is 0, each slot is outside the margins or its mode does not fetch
 idle : (b : Block) (n : ℕ) → fetchingSlots b ≡ 0 → activeAt b n && modeFetches (modeOf b) ≡ false

@@ -13,7 +13,7 @@ use Rattle.nick.specs.Record.{flags, fetchingSlots, lineRecord, nextState}
 use Rattle.nick.specs.declared.Pointers.{Pointers}
 use Rattle.nick.specs.declared.Scan.{Scan}
 use Rattle.nick.specs.declared.State.{State}
-use Rattle.scanline.specs.Lines.{slotsEnd, endedAt}
+use Rattle.scanline.specs.PaintedLine.{slotsEnd, endedAt}
 
 -- the fetches of a load
 pub load-length : (t : Bool) (n : ℕ) → length (cond t (blockAddresses n) []) ≡ cond t 16 0

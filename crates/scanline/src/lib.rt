@@ -7,7 +7,7 @@ ghost use Rattle.nick.specs.Sizes.{recordBytes};
 ghost use Rattle.nick.specs.Slots.{modeOf, linePointers};
 ghost use Rattle.nick.specs.Refusals.{Formed};
 ghost use Rattle.colour.specs.Cell.{paletteOf};
-ghost use Rattle.scanline.specs.Lines.{NextSlot, Slots, endedAt, Line};
+ghost use Rattle.scanline.specs.PaintedLine.{NextSlot, Slots, endedAt, Line};
 use blocks::CH64;
 use blocks::CH256;
 use blocks::has_vint;

@@ -1,3 +1,3 @@
 pub mod Runs
 pub mod CellRuns
-pub mod Slots
+pub mod CellDots

@@ -1,2 +1,2 @@
-pub mod Slots
+pub mod PaintedSlot
 pub mod Shows

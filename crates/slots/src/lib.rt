@@ -4,7 +4,7 @@ ghost use Prim.Native.Nat.{_<_, _≤_};
 ghost use lib.ListN.{length};
 ghost use Rattle.colour.specs.Cell.{paletteOf};
 ghost use Rattle.slots.specs.Shows.{fetchedDots};
-ghost use Rattle.slots.specs.Slots.{AnySlot};
+ghost use Rattle.slots.specs.PaintedSlot.{AnySlot};
 
 mod show;
 

@@ -1,4 +1,4 @@
 pub mod Rises
-pub mod Lines
+pub mod ModeLines
 pub mod Walking
-pub mod Modes
+pub mod ModeSteps

@@ -14,7 +14,7 @@ use Rattle.laws.proofs.StatesAfter.{scan-add}
 use Rattle.walk.specs.Steps.{skipped}
 use Rattle.walk.specs.Walks.{Reached}
 use Rattle.walk.proofs.Rises.{SixteenBits}
-use Rattle.walk.proofs.Lines.{lines-inside}
+use Rattle.walk.proofs.ModeLines.{lines-inside}
 
 -- a well-formed scan begins well-formed, with a scanline left
 pub begins-formed : (g : Registers) (ram : List ℕ) (c d : Scan) → d ≡ begun g ram c → Formed c → d .block .sc < 256 → g .lpl < 256 → (1 ≤ d .left) × Formed d

@@ -1,5 +1,5 @@
 -- `direct::begun_dot`: the addresses at the dot's slot, and the colour of the bytes there, are the rules' answer.
-use Rattle.direct.proofs.Answers.{slot-answer}
+use Rattle.direct.proofs.DotFromBytes.{slot-answer}
 use borrow.Author.Needs.{needs}
 use Rattle.direct.proofs.begun_dot.Statement.{statement}
 use Rattle.direct.proofs.begun_dot.Tie as tie

@@ -1,6 +1,6 @@
 -- `direct::byte_colour`: a cell's palette numbers are below 16, so any cell has a colour.
 use Rattle.colour.proofs.Cells.{cell-below}
-use Rattle.direct.specs.Answers.{byteColour}
+use Rattle.direct.specs.DotFromBytes.{byteColour}
 use borrow.Author.Needs.{needs}
 use Rattle.direct.proofs.byte_colour.Statement.{statement}
 use Rattle.direct.proofs.byte_colour.Tie as tie

@@ -3,8 +3,8 @@ use mathlib.Core.Path.{_∙_, sym}
 use mathlib.Core.Logic.{⊎-elim}
 use native.Mathlib.Omega.{arith}
 use Rattle.nick.specs.Slots.{modeNumbered}
-use Rattle.nick.proofs.Modes.{characters}
-use Rattle.direct.proofs.Answers.{low-cell, high-cell}
+use Rattle.nick.proofs.ModeNumbers.{characters}
+use Rattle.direct.proofs.DotFromBytes.{low-cell, high-cell}
 use borrow.Author.Needs.{needs}
 use Rattle.direct.proofs.cell_from.Statement.{statement}
 use Rattle.direct.proofs.cell_from.Tie as tie

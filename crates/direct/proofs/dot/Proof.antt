@@ -2,7 +2,7 @@
 use mathlib.Core.Path.{_≡_, sym, _∙_}
 use native.Mathlib.Omega.{arith}
 use Rattle.nick.proofs.Refusals.{Answerable, answerable}
-use Rattle.direct.proofs.Answers.{direct-refused, direct-answered}
+use Rattle.direct.proofs.DotFromBytes.{direct-refused, direct-answered}
 use borrow.Author.Needs.{needs}
 use Rattle.direct.proofs.dot.Statement.{statement}
 use Rattle.direct.proofs.dot.Tie as tie

@@ -2,7 +2,7 @@
 use mathlib.Core.Path.{_≡_, sym, _∙_}
 use mathlib.Core.Bool.{false}
 use Rattle.nick.specs.Refusals.{illFormed, notFull}
-use Rattle.direct.proofs.Answers.{refused-state, refused-ram, refused-place, not-refused}
+use Rattle.direct.proofs.DotFromBytes.{refused-state, refused-ram, refused-place, not-refused}
 use borrow.Author.Needs.{needs}
 use Rattle.direct.proofs.refusal.Statement.{statement}
 use Rattle.direct.proofs.refusal.Tie as tie
@@ -27,26 +27,26 @@ is-not-full-requires c κs = search needs
 
 returns-2 : tie.Need-returns-2
 returns-2 c =
-    let place = c .before .before in
-    let a = place .before .before .before .args in
-    refused-ram (a .state) (a .ram .now) (a .line) (a .dot) (formed place) (sym (c .before .is-not-full .ensures) ∙ c .if2 .taken)
+    let test1 = c .before .before in
+    let a = test1 .before .before .before .args in
+    refused-ram (a .state) (a .ram .now) (a .line) (a .dot) (formed test1) (sym (c .before .is-not-full .ensures) ∙ c .if2 .taken)
 
 is-bad-place-requires : tie.Need-is-bad-place-requires
 is-bad-place-requires c κs = search needs
 
 returns-3 : tie.Need-returns-3
 returns-3 c =
-    let place = c .before .before in
-    let place-2 = place .before .before in
-    let a = place-2 .before .before .before .args in
-    refused-place (a .state) (a .ram .now) (a .line) (a .dot) (formed place-2) (full place) (sym (c .before .is-bad-place .ensures) ∙ c .if3 .taken)
+    let test2 = c .before .before in
+    let test1 = test2 .before .before in
+    let a = test1 .before .before .before .args in
+    refused-place (a .state) (a .ram .now) (a .line) (a .dot) (formed test1) (full test2) (sym (c .before .is-bad-place .ensures) ∙ c .if3 .taken)
 
 returns-4 : tie.Need-returns-4
 returns-4 c =
-    let place = c .before .before in
-    let place-2 = place .before .before in
-    let a = place-2 .before .before .before .args in
-    not-refused (a .state) (a .ram .now) (a .line) (a .dot) (formed place-2) (full place) (sym (c .before .is-bad-place .ensures) ∙ c .if3 .left)
+    let test2 = c .before .before in
+    let test1 = test2 .before .before in
+    let a = test1 .before .before .before .args in
+    not-refused (a .state) (a .ram .now) (a .line) (a .dot) (formed test1) (full test2) (sym (c .before .is-bad-place .ensures) ∙ c .if3 .left)
 
 pub refusal-spec : {M : Type 1} → statement M
 refusal-spec =

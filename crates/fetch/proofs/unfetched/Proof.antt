@@ -1,6 +1,6 @@
 -- `fetch::unfetched`: VSYNC is mode 0.
 use borrow.Author.Tests.{eq-eqb, ne-eqb}
-use Rattle.nick.proofs.Modes.{syncs-zero}
+use Rattle.nick.proofs.ModeNumbers.{syncs-zero}
 use borrow.Author.Needs.{needs}
 use Rattle.fetch.proofs.unfetched.Statement.{statement}
 use Rattle.fetch.proofs.unfetched.Tie as tie

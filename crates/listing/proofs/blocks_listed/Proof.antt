@@ -2,7 +2,7 @@
 use mathlib.Core.Path.{_≡_, _∙_, sym}
 use Prim.Native.Nat.{_≤_, _-_, _+_}
 use native.Mathlib.Omega.{arith}
-use Rattle.listing.proofs.Table.{blocksAfter, after-reload, after-more, after-all, listed-after}
+use Rattle.listing.proofs.BlocksLeft.{blocksAfter, after-reload, after-more, after-all, listed-after}
 use borrow.Author.Needs.{needs}
 use Rattle.listing.proofs.blocks_listed.Statement.{statement}
 use Rattle.listing.proofs.blocks_listed.Tie as tie

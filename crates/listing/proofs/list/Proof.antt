@@ -4,7 +4,7 @@ use mathlib.Core.Bool.{false}
 use native.Mathlib.Omega.{arith}
 use Rattle.nick.specs.Refusals.{notFull}
 use Rattle.nick.proofs.Refusals.{full}
-use Rattle.listing.proofs.Answers.{wrote-nothing, refused-ram, refused-short, listed}
+use Rattle.listing.proofs.ListAnswers.{wrote-nothing, refused-ram, refused-short, listed}
 use borrow.Author.Needs.{needs}
 use Rattle.listing.proofs.list.Statement.{statement}
 use Rattle.listing.proofs.list.Tie as tie
@@ -43,9 +43,9 @@ returns-2 c =
 
 put-listing-requires-2 : tie.Need-put-listing-requires-2
 put-listing-requires-2 c κs =
-    let place = c .before .before .before .before .before .before in
-    let start = place .before .before .before .before in
-    full (start .args .ram .now) (whole place)
+    let past = c .before .before .before .before .before .before in
+    let start = past .before .before .before .before in
+    full (start .args .ram .now) (whole past)
 
 same-length-2 : tie.Need-same-length-2
 same-length-2 c = search needs

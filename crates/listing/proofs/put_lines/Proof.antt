@@ -5,7 +5,7 @@ use native.Mathlib.Omega.{arith}
 use Rattle.nick.specs.Listing.{blockLines}
 use Rattle.text.specs.Writing.{Wrote}
 use Rattle.text.proofs.Writing.{wrote-none, wrote-kept}
-use Rattle.listing.proofs.Lines.{line-room, line-more}
+use Rattle.listing.proofs.FirstLines.{line-room, line-more}
 use borrow.Author.Needs.{needs}
 use Rattle.listing.proofs.put_lines.Statement.{statement}
 use Rattle.listing.proofs.put_lines.Tie as tie
@@ -22,8 +22,7 @@ loop-holds c = (omega arith, wrote-none _ _)
 put-line-requires : tie.Need-put-line-requires Inv-loop μ-loop
 put-line-requires c κs =
     let at-loop = c .before .before in
-    let place = at-loop .before .before .before in
-    let start = place in (
+    let start = at-loop .before .before .before in (
       omega arith,
       start .pre .1,
       line-room (start .args .registers) (start .args .ram .now) (at-loop .loop .k) (start .args .count) (c .before .loop-test .taken) (at-loop .loop .inv .1) (start .pre .2),

@@ -6,10 +6,10 @@ use native.Mathlib.Omega.{arith}
 use lib.ListN.{length}
 use Rattle.nick.specs.Listing.{blockLines, listing}
 use Rattle.nick.specs.declared.Registers.{Registers}
-use Rattle.listing.specs.Lines.{wordLine}
+use Rattle.listing.specs.WrittenLines.{wordLine}
 use Rattle.text.proofs.Writing.{wrote-then}
 use Rattle.listing.proofs.Pieces.{header, endTab}
-use Rattle.listing.proofs.Table.{listed-limit}
+use Rattle.listing.proofs.BlocksLeft.{listed-limit}
 use Rattle.listing.proofs.Length.{listing-text, listing-length, listing-bound}
 use borrow.Author.Needs.{needs}
 use Rattle.listing.proofs.put_listing.Statement.{statement}
@@ -61,16 +61,16 @@ put-word-line-requires c κs = omega (arith, bounded c)
 
 put-lines-requires : tie.Need-put-lines-requires
 put-lines-requires c κs =
-    let place = c .before .before .before .before in
-    omega (arith, bounded place, listed-limit (g place) (ram place))
+    let based = c .before .before .before .before in
+    omega (arith, bounded based, listed-limit (g based) (ram based))
 
 slice-aggregate-put-word-line-2 : tie.Need-slice-aggregate-put-word-line-2
 slice-aggregate-put-word-line-2 c = search needs
 
 put-word-line-requires-2 : tie.Need-put-word-line-requires-2
 put-word-line-requires-2 c κs =
-    let place = c .before .before .before .before .before .before .before .before .before in
-    omega (arith, bounded place)
+    let based = c .before .before .before .before .before .before .before .before .before in
+    omega (arith, bounded based)
 
 same-length : tie.Need-same-length
 same-length c = search needs
@@ -80,8 +80,8 @@ returns c =
     let at-put-word-line2 = c .before .before in
     let at-put-lines = at-put-word-line2 .before .before .before .before .before in
     let at-put-word-line = at-put-lines .before .before .before .before in
-    let place = at-put-word-line .before in
-    rw (parts place) (wrote-then (wrote-then (at-put-word-line .put-word-line .ensures) (at-put-lines .put-lines .ensures)) (at-put-word-line2 .put-word-line2 .ensures))
+    let based = at-put-word-line .before in
+    rw (parts based) (wrote-then (wrote-then (at-put-word-line .put-word-line .ensures) (at-put-lines .put-lines .ensures)) (at-put-word-line2 .put-word-line2 .ensures))
 
 pub put-listing-spec : {M : Type 1} → statement M
 put-listing-spec =

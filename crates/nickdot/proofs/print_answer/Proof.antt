@@ -1,7 +1,7 @@
 -- `nickdot::print_answer`: an answer with a colour was not refused, so each address is in RAM.
 use mathlib.Core.Path.{_≡_, sym, ap, _∙_}
 use Rattle.nick.specs.Direct.{answered}
-use Rattle.nickdot.proofs.Accepted.{full-after}
+use Rattle.nickdot.proofs.FullRam.{full-after}
 use borrow.Author.Needs.{needs}
 use Rattle.nickdot.proofs.print_answer.Statement.{statement}
 use Rattle.nickdot.proofs.print_answer.Tie as tie

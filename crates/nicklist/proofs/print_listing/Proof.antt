@@ -1,6 +1,6 @@
 -- `nicklist::print_listing`: a listing that is not refused fits its output.
 use native.Mathlib.Omega.{arith}
-use Rattle.nicklist.proofs.Accepted.{fits-after}
+use Rattle.nicklist.proofs.ListingFits.{fits-after}
 use borrow.Author.Needs.{needs}
 use Rattle.nicklist.proofs.print_listing.Statement.{statement}
 use Rattle.nicklist.proofs.print_listing.Tie as tie

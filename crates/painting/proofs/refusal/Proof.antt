@@ -4,7 +4,7 @@ use mathlib.Core.Bool.{false}
 use native.Mathlib.Omega.{arith}
 use Rattle.nick.specs.Refusals.{illFormed, notFull, badHeight, badDots, badRecords}
 use Rattle.nick.proofs.Refusals.{height-most}
-use Rattle.painting.proofs.Table.{refused-state, refused-ram, refused-height, refused-dots, refused-records, refused-external, not-refused}
+use Rattle.painting.proofs.RefusalTable.{refused-state, refused-ram, refused-height, refused-dots, refused-records, refused-external, not-refused}
 use borrow.Author.Needs.{needs}
 use Rattle.painting.proofs.refusal.Statement.{statement}
 use Rattle.painting.proofs.refusal.Tie as tie
@@ -39,9 +39,9 @@ is-not-full-requires c κs = search needs
 
 returns-2 : tie.Need-returns-2
 returns-2 c =
-    let place = c .before .before in
-    let a = place .before .before .before .before .before .before .args in
-    refused-ram (a .state) (a .ram .now) (a .height) (a .dots .now) (a .records .now) (a .external .now) (formed place)
+    let test1 = c .before .before in
+    let a = test1 .before .before .before .before .before .before .args in
+    refused-ram (a .state) (a .ram .now) (a .height) (a .dots .now) (a .records .now) (a .external .now) (formed test1)
     (sym (c .before .is-not-full .ensures) ∙ c .if2 .taken)
 
 is-bad-height-requires : tie.Need-is-bad-height-requires
@@ -68,9 +68,9 @@ returns-4 c =
 
 is-bad-length-requires-2 : tie.Need-is-bad-length-requires-2
 is-bad-length-requires-2 c κs =
-    let place = c .before .before in
-    let start = place .before .before .before .before .before .before .before .before .before .before in
-    (omega arith, height-most (start .args .height) (height place))
+    let test3 = c .before .before in
+    let start = test3 .before .before .before .before .before .before .before .before .before .before in
+    (omega arith, height-most (start .args .height) (height test3))
 
 returns-5 : tie.Need-returns-5
 returns-5 c =
@@ -83,9 +83,9 @@ returns-5 c =
 
 is-bad-external-requires : tie.Need-is-bad-external-requires
 is-bad-external-requires c κs =
-    let place = c .before .before .before .before in
-    let start = place .before .before .before .before .before .before .before .before .before .before in
-    height-most (start .args .height) (height place)
+    let test3 = c .before .before .before .before in
+    let start = test3 .before .before .before .before .before .before .before .before .before .before in
+    height-most (start .args .height) (height test3)
 
 returns-6 : tie.Need-returns-6
 returns-6 c =

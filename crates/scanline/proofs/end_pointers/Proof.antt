@@ -1,7 +1,7 @@
 -- `scanline::end_pointers`: the range of the match is the character modes.
 use borrow.Author.Tests.{lt-leb, le-leb}
 use native.Mathlib.Omega.{arith}
-use Rattle.nick.proofs.Modes.{characters, line-still}
+use Rattle.nick.proofs.ModeNumbers.{characters, line-still}
 use borrow.Author.Needs.{needs}
 use Rattle.scanline.proofs.end_pointers.Statement.{statement}
 use Rattle.scanline.proofs.end_pointers.Tie as tie

@@ -1,5 +1,5 @@
 -- `scanline::end_scan` takes LD2's step, and one scanline off.
-use Rattle.scanline.specs.Lines.{endedAt}
+use Rattle.scanline.specs.PaintedLine.{endedAt}
 use borrow.Author.Needs.{needs}
 use Rattle.scanline.proofs.end_scan.Statement.{statement}
 use Rattle.scanline.proofs.end_scan.Tie as tie

@@ -7,7 +7,7 @@ use native.Mathlib.Omega.{arith}
 use lib.ListN.{length, drop}
 use Rattle.nick.specs.Numbers.{byteAt}
 use Rattle.nick.specs.Scanline.{activeAt, pastSlot, pointersAfter, slotsFetched, slotsDots, begunFetches}
-use Rattle.scanline.specs.Lines.{slotsEnd}
+use Rattle.scanline.specs.PaintedLine.{slotsEnd}
 use Rattle.scanline.proofs.DotSlots.{slot-more, slots-all, fetched-more}
 use borrow.Author.Needs.{needs}
 use Rattle.scanline.proofs.slots_in_order.Statement.{statement}

@@ -1,5 +1,5 @@
 -- `slots::paint_slot` shows what its slot fetched.
-use Rattle.slots.proofs.Slots.{any-slot}
+use Rattle.slots.proofs.CellDots.{any-slot}
 use borrow.Author.Needs.{needs}
 use Rattle.slots.proofs.paint_slot.Statement.{statement}
 use Rattle.slots.proofs.paint_slot.Tie as tie

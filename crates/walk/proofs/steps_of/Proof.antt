@@ -3,8 +3,8 @@ use mathlib.Core.Path.{_∙_}
 use mathlib.Core.Logic.{⊎-elim}
 use native.Mathlib.Omega.{arith}
 use Rattle.nick.specs.Slots.{modeNumbered}
-use Rattle.walk.proofs.Modes.{steps-small, vsync-steps, unused-steps}
-use Rattle.nick.proofs.Modes.{characters}
+use Rattle.walk.proofs.ModeSteps.{steps-small, vsync-steps, unused-steps}
+use Rattle.nick.proofs.ModeNumbers.{characters}
 use borrow.Author.Needs.{needs}
 use Rattle.walk.proofs.steps_of.Statement.{statement}
 use Rattle.walk.proofs.steps_of.Tie as tie

@@ -1,6 +1,6 @@
 -- `blocks::code_width` is the width in the law of the character modes.
 use native.Mathlib.Omega.{arith}
-use Rattle.nick.proofs.Modes.{characters}
+use Rattle.nick.proofs.ModeNumbers.{characters}
 use borrow.Author.Needs.{needs}
 use Rattle.blocks.proofs.mode.code_width.Statement.{statement}
 use Rattle.blocks.proofs.mode.code_width.Tie as tie

@@ -1,6 +1,6 @@
 -- `records::record::flag_byte`: each bit is the rule's, the modes being told by their numbers.
 use Rattle.nick.specs.Record.{flags}
-use Rattle.nick.proofs.Modes.{syncs-zero}
+use Rattle.nick.proofs.ModeNumbers.{syncs-zero}
 use borrow.Author.Needs.{needs}
 use Rattle.records.proofs.record.flag_byte.Statement.{statement}
 use Rattle.records.proofs.record.flag_byte.Tie as tie

@@ -1,6 +1,6 @@
 -- `records::put_record`: as many stores as the record has bytes make the whole of it.
 use Rattle.lists.proofs.Laws.{stored-all}
-use Rattle.records.specs.Records.{bytesOf}
+use Rattle.records.specs.RecordBytes.{bytesOf}
 use borrow.Author.Needs.{needs}
 use Rattle.records.proofs.record.put_record.Statement.{statement}
 use Rattle.records.proofs.record.put_record.Tie as tie

@@ -1,7 +1,7 @@
 -- `records::record::slots_byte`: all active slots where the mode fetches, else 0.
 use mathlib.Core.Path.{_∙_}
 use borrow.Author.Tests.{eq-eqb, ne-eqb}
-use Rattle.nick.proofs.Modes.{fetches-but}
+use Rattle.nick.proofs.ModeNumbers.{fetches-but}
 use Rattle.blocks.proofs.ActiveSlots.{active-all}
 use borrow.Author.Needs.{needs}
 use Rattle.records.proofs.record.slots_byte.Statement.{statement}

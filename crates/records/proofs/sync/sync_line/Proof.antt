@@ -6,7 +6,7 @@ use native.Mathlib.Omega.{arith}
 use borrow.Author.Tests.{eq-eqb, ne-eqb}
 use Rattle.lists.proofs.Tests.{number-le}
 use Rattle.nick.specs.Sync.{syncAt, syncAfter, syncCount, lineSync, lineSyncCount}
-use Rattle.nick.proofs.Modes.{syncs-zero}
+use Rattle.nick.proofs.ModeNumbers.{syncs-zero}
 use borrow.Author.Needs.{needs}
 use Rattle.records.proofs.sync.sync_line.Statement.{statement}
 use Rattle.records.proofs.sync.sync_line.Tie as tie

@@ -1,6 +1,6 @@
 -- `slots::show::show`: with no external input connected the plain dots are the mixed ones.
 use mathlib.Core.Path.{_∙_}
-use Rattle.slots.proofs.Slots.{palette-length, plain-mixed}
+use Rattle.slots.proofs.CellDots.{palette-length, plain-mixed}
 use borrow.Author.Needs.{needs}
 use Rattle.slots.proofs.show.show.Statement.{statement}
 use Rattle.slots.proofs.show.show.Tie as tie

@@ -14,7 +14,7 @@ use Rattle.nick.specs.declared.Registers.{Registers}
 use Rattle.nick.specs.declared.Listed.{Listed}
 use Rattle.nick.specs.declared.Listed.the-variants.{Length}
 use Rattle.files.specs.Writes.{writtenBy, afterWrites}
-use Rattle.nicklist.specs.Lists.{ListsAfter}
+use Rattle.nicklist.specs.ListingAfterWrites.{ListsAfter}
 
 -- a length is answered only where the number is 0, and is then the other answer
 listed : (n k : ℕ) (a : ListAnswered) → listLength k ≡ cond (eqb n 0) a (listRefused n) → (n ≡ 0) × (listLength k ≡ a)

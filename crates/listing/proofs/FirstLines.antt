@@ -9,7 +9,7 @@ use lib.ListN.{length, length-append}
 use Rattle.nick.specs.Listing.{blockLines}
 use Rattle.nick.specs.declared.Registers.{Registers}
 use Rattle.text.specs.Writing.{Room, Wrote}
-use Rattle.listing.specs.Lines.{lineAfter}
+use Rattle.listing.specs.WrittenLines.{lineAfter}
 use Rattle.text.proofs.Writing.{wrote-then}
 
 module _ (g : Registers) (ram : List ℕ) where

@@ -26,7 +26,7 @@ use Rattle.lists.proofs.Below.{below-two, below-eight}
 use Rattle.laws.proofs.LineDots.{line-dot}
 use Rattle.colour.specs.Cell.{graphicsCell, cellPixel}
 use Rattle.fetch.proofs.SlotDots.{pixel-dot, mode-dot}
-use Rattle.direct.specs.Answers.{cellFrom, byteColour, sourcedColour, dotAnswer}
+use Rattle.direct.specs.DotFromBytes.{cellFrom, byteColour, sourcedColour, dotAnswer}
 
 -- modes 0, 1, 6 and 7 have one byte
 pub low-cell : (b : Block) (first second m : ℕ) → m < 2 → graphicsCell b first ≡ cellFrom (modeNumbered m) b first second

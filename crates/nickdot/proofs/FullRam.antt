@@ -12,7 +12,7 @@ use Rattle.nick.specs.Direct.{Shown, Answered, shows, refused, directShown, dir
 use Rattle.nick.specs.declared.State.{State}
 use Rattle.nick.proofs.Refusals.{answerable}
 use Rattle.files.specs.Writes.{writtenBy, afterWrites}
-use Rattle.nickdot.specs.Answers.{answerAfter}
+use Rattle.nickdot.specs.DotAfterWrites.{answerAfter}
 
 -- a colour is answered only where the number is 0, and is then the other answer
 coloured : (n : ℕ) (d : Shown) (a : Answered) → shows d ≡ cond (eqb n 0) a (refused n) → (n ≡ 0) × (shows d ≡ a)

@@ -13,7 +13,7 @@ use Rattle.nick.specs.Listing.{listing, listAnswer, listOutput}
 use Rattle.nick.specs.declared.Registers.{Registers}
 use Rattle.nick.specs.declared.Listed.the-variants.{Length, Refused}
 use Rattle.text.specs.Writing.{Wrote}
-use Rattle.listing.specs.Lists.{Lists}
+use Rattle.listing.specs.ListCall.{Lists}
 
 -- a buffer of no bytes stays one
 sets-nothing : (at : ℕ) (text : List ℕ) → sets [] at text ≡ []

@@ -23,7 +23,7 @@ use Rattle.colour.specs.Cell.{paletteNumber, paletteOf}
 use Rattle.fetch.specs.Fetches.{fetchedAt, slotPixel}
 use Rattle.fetch.proofs.SlotDots.{slot-below, mode-dot, moved, counted, few}
 use Rattle.slots.specs.Shows.{pixelShown, plainDots, mixedDot, mixedDots, fetchedDots}
-use Rattle.slots.specs.Slots.{AnySlot}
+use Rattle.slots.specs.PaintedSlot.{AnySlot}
 use Rattle.fetch.specs.declared.Fetched.{Fetched}
 
 -- with no external colour a pixel has its palette's colour
