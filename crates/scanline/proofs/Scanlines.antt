@@ -2,11 +2,11 @@
 use mathlib.Core.Path.{_≡_, refl, ap, _∙_}
 use mathlib.Core.Bool.{Bool, true, false, cond}
 use mathlib.Core.List.{List, [], _∷_}
-use Prim.Native.Nat.{ℕ, _+_, _*_}
+use Prim.Native.Nat.{ℕ, _+_, _*_, _/_, _%_}
 use lib.Dec.{eqb}
 use lib.ListN.{length, length-append}
 use Rattle.lists.proofs.Laws.{length-tab}
-use Rattle.nick.specs.Blocks.{vint, loads, loadedNumber, blockAddresses, begun}
+use Rattle.nick.specs.Blocks.{loads, loadedNumber, blockAddresses, begun}
 use Rattle.nick.specs.Scanline.{begunDots, lineDots, begunFetches, lineFetches, ended, nextScan}
 use Rattle.nick.specs.Sync.{lineSync, lineSyncCount}
 use Rattle.nick.specs.Record.{flags, fetchingSlots, lineRecord, nextState}
@@ -31,18 +31,17 @@ module _ (s : State) (ram : List ℕ) (c : Scan) (begins : c ≡ begun (s .regis
   unfolding lineDots
   dots-are ext = rw begins
 
-  pub state-is : (d : Scan) (p : Pointers) (low on : Bool)
+  pub state-is : (d : Scan) (p : Pointers) (on : Bool)
       → d ≡ endedAt c p
       → p ≡ slotsEnd c
-      → low ≡ vint (c .block)
       → on ≡ lineSync (c .block) (s .sync)
       → _≡_ {A = State}
-      (record { registers = s .registers; scan = d; virq = low; sync = on })
+      (record { registers = s .registers; scan = d; virq = eqb (c .block .mb / 128 % 2) 1; sync = on })
       (nextState ram s)
   unfolding nextState nextScan
-  state-is d p low on hd hp hlow hon =
+  state-is d p on hd hp hon =
       let end : d ≡ ended c = hd ∙ (ap (endedAt c) hp ∙ ended-at c) in
-      rw (end, hlow, hon, begins)
+      rw (end, hon, begins)
 
   pub record-is : (d : Scan) (p : Pointers) (load : Bool) (f l k y n : ℕ)
       → d ≡ endedAt c p

@@ -10,7 +10,6 @@ ghost use Rattle.colour.specs.Cell.{paletteOf};
 ghost use Rattle.scanline.specs.PaintedLine.{NextSlot, Slots, endedAt, Line};
 use blocks::CH64;
 use blocks::CH256;
-use blocks::has_vint;
 use blocks::video_mode;
 use nick::Block;
 use nick::Pointers;
@@ -169,10 +168,11 @@ pub fn paint_scanline(
         slots: slots_byte(block),
     };
     put_record(line, recorded);
+    // VINT in line, as in `flag_byte`: with `has_vint` here painting is slower.
     State {
         registers,
         scan,
-        virq: has_vint(block),
+        virq: block.mb / 128 % 2 == 1,
         sync: sync.on,
     }
 }

@@ -46,9 +46,6 @@ put-record-requires : tie.Need-put-record-requires
 put-record-requires c κs =
     c .before .before .before .before .before .before .before .before .before .before .before .before .before .before .before .before .before .before .before .before .before .pre .0 .2
 
-has-vint-requires : tie.Need-has-vint-requires
-has-vint-requires c κs = search needs
-
 same-length : tie.Need-same-length
 same-length c = search needs
 
@@ -74,8 +71,8 @@ returns c =
       bytes = put .put-record .ensures
           ∙ record-is (a .state) (a .ram .now) begun begins _ _ (loading .is-loading .result) _ _ _ _ _ (end .end-scan .ensures) (loading .is-loading .ensures)
           (flags .flag-byte .ensures) (sync .sync-line .ensures .slots) (load .load-fetches .ensures .0) (slots .paint-slots .ensures .fetched) (active .slots-byte .ensures);
-      state = state-is (a .state) (a .ram .now) begun begins (end .end-scan .result) _ (c .has-vint .result) (sync .sync-line .result .on)
-          (end .end-scan .ensures) (slots .paint-slots .ensures .at) (c .has-vint .ensures) (sync .sync-line .ensures .level);
+      state = state-is (a .state) (a .ram .now) begun begins (end .end-scan .result) _ (sync .sync-line .result .on) (end .end-scan .ensures)
+          (slots .paint-slots .ensures .at) (sync .sync-line .ensures .level);
     }
 
 pub paint-scanline-spec : {M : Type 1} → statement M
@@ -92,7 +89,6 @@ paint-scanline-spec =
     add-fetched
     slots-byte-requires
     put-record-requires
-    has-vint-requires
     same-length
     same-length-2
     returns)
