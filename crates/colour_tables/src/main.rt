@@ -2,6 +2,12 @@
 // The lines must be those of the second program.
 ghost use Prim.Native.Nat.{_<_};
 ghost use Rattle.colour.specs.Cell.{paletteNumber};
+use blocks::ATTR;
+use blocks::CH64;
+use blocks::CH128;
+use blocks::CH256;
+use blocks::LPIXEL;
+use blocks::PIXEL;
 use cases::START;
 use cases::digest_byte;
 use colour::Cell;
@@ -43,8 +49,8 @@ fn falling() -> Block {
 // The cell of a display byte in a video mode.
 fn cell_in(mode: u8, block: Block, first: u8, byte: u8) -> Cell {
     match mode {
-        1 | 7 => colour::graphics_cell(block, byte),
-        2 => colour::attribute_cell(first, byte),
+        PIXEL | LPIXEL => colour::graphics_cell(block, byte),
+        ATTR => colour::attribute_cell(first, byte),
         _ => colour::character_cell(block, first, byte),
     }
 }
@@ -65,7 +71,7 @@ fn digest_eighth(d: u64, mode: u8, cell: Cell, at: u8) -> u64
     requires { ⌜ at < 8 ⌝ }
 {
     let once = digest_dot(d, cell, at);
-    if mode == 1 {
+    if mode == PIXEL {
         once
     } else {
         digest_dot(once, cell, at)
@@ -102,7 +108,7 @@ fn digest_firsts(d: u64, mode: u8, block: Block) -> u64 {
 // Every display byte of a block; in PIXEL and LPIXEL no attribute or code goes with it.
 fn digest_block(d: u64, mode: u8, block: Block) -> u64 {
     match mode {
-        1 | 7 => digest_bytes(d, mode, block, 0),
+        PIXEL | LPIXEL => digest_bytes(d, mode, block, 0),
         _ => digest_firsts(d, mode, block),
     }
 }
@@ -243,12 +249,12 @@ fn print_externals() {
 }
 
 fn main() {
-    print_colour_modes(b"PIXEL", 1);
-    print_colour_modes(b"LPIXEL", 7);
-    print_colour_modes(b"ATTR", 2);
-    print_colour_modes(b"CH256", 3);
-    print_colour_modes(b"CH128", 4);
-    print_colour_modes(b"CH64", 5);
+    print_colour_modes(b"PIXEL", PIXEL);
+    print_colour_modes(b"LPIXEL", LPIXEL);
+    print_colour_modes(b"ATTR", ATTR);
+    print_colour_modes(b"CH256", CH256);
+    print_colour_modes(b"CH128", CH128);
+    print_colour_modes(b"CH64", CH64);
     io::write_all(STDOUT_FILENO, b"colours palette");
     print_digest(digest_palettes());
     print_externals();

@@ -168,7 +168,7 @@ pub fn paint_scanline(
         slots: slots_byte(block),
     };
     put_record(line, recorded);
-    // VINT in line, as in `flag_byte`: with `has_vint` here painting is slower.
+    // VINT in line: with `has_vint` here painting is slower (docs/DECISIONS.md 35).
     State {
         registers,
         scan,
