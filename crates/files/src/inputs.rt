@@ -31,7 +31,7 @@ fn first_unread(ram: bool, writes: bool) -> usize
 }
 
 // Prints which file could not be read, or how the program is used where WRITES is not pairs of bytes; answers whether neither.
-fn is_usable(unread: usize, writes: usize, usage: &[u8]) -> bool
+fn check_inputs(unread: usize, writes: usize, usage: &[u8]) -> bool
     ensures { λ r. ⌜ r ≡ (eqb unread 0 && not (eqb (writes % 2) 1)) ⌝ }
 {
     if unread != 0 {
@@ -53,7 +53,7 @@ pub fn read_inputs(ram: &mut [u8], writes: &mut [u8], usage: &[u8]) -> Inputs
     let second = read_argument(WRITES, writes);
     let unread = first_unread(first.is_read, second.is_read);
     Inputs {
-        is_read: is_usable(unread, second.length, usage),
+        is_read: check_inputs(unread, second.length, usage),
         ram: first.length,
         writes: second.length,
     }

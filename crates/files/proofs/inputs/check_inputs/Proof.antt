@@ -1,9 +1,9 @@
--- `files::inputs::is_usable` makes the two tests.
+-- `files::inputs::check_inputs` makes the two tests.
 use Prim.Native.Nat.{_%_}
 use borrow.Author.Tests.{eq-eqb, ne-eqb}
 use borrow.Author.Needs.{needs}
-use Rattle.files.proofs.inputs.is_usable.Statement.{statement}
-use Rattle.files.proofs.inputs.is_usable.Tie as tie
+use Rattle.files.proofs.inputs.check_inputs.Statement.{statement}
+use Rattle.files.proofs.inputs.check_inputs.Tie as tie
 
 print-unreadable-requires : tie.Need-print-unreadable-requires
 print-unreadable-requires c κs = search needs
@@ -24,5 +24,5 @@ returns-3 c =
     let a = c .before .before .before .args in
     rw (eq-eqb (a .unread) 0 (c .before .if1 .left), ne-eqb (a .writes % 2) 1 (c .if2 .left))
 
-pub is-usable-spec : {M : Type 1} → statement M
-is-usable-spec = tie.close (tie.spec print-unreadable-requires returns print-usage-requires returns-2 returns-3)
+pub check-inputs-spec : {M : Type 1} → statement M
+check-inputs-spec = tie.close (tie.spec print-unreadable-requires returns print-usage-requires returns-2 returns-3)
