@@ -55,12 +55,12 @@ def spread(value, places):
 
 def four(indices):
     """The display byte of four pixels in four colours."""
-    return sum(spread(n, ((3 - p,), (7 - p,))) for p, n in enumerate(indices))
+    return sum(spread(n, ((7 - p,), (3 - p,))) for p, n in enumerate(indices))
 
 
 def sixteen(first, second):
     """The display byte of two pixels in sixteen colours."""
-    return spread(first, ((1,), (5,), (3,), (7,))) | spread(second, ((0,), (4,), (2,), (6,)))
+    return spread(first, ((7,), (3,), (5,), (1,))) | spread(second, ((6,), (2,), (4,), (0,)))
 
 
 def glyph_row(character, row):

@@ -315,6 +315,28 @@ pub fn write_register(state: &mut State, port: u32, data: u8) -> u8 {
 // ---------------------------------------------------------------------------
 // From display byte to colour
 
+/// The bits of each pixel and what each weighs: in four colours "b7 weighs 1 and b3 weighs 2", and so on to the right.
+const FOUR_WEIGHTS: [[(usize, u8); 2]; 4] = [[(7, 1), (3, 2)], [(6, 1), (2, 2)], [(5, 1), (1, 2)], [(4, 1), (0, 2)]];
+/// "In sixteen b7, b3, b5, b1 weigh 1, 2, 4, 8, and the second pixel likewise."
+const SIXTEEN_WEIGHTS: [[(usize, u8); 4]; 2] = [[(7, 1), (3, 2), (5, 4), (1, 8)], [(6, 1), (2, 2), (4, 4), (0, 8)]];
+static FOUR: [[u8; 4]; 256] = weighed(FOUR_WEIGHTS);
+static SIXTEEN: [[u8; 2]; 256] = weighed(SIXTEEN_WEIGHTS);
+
+/// The palette numbers of every byte's pixels: what its set bits weigh.
+const fn weighed<const BITS: usize, const PIXELS: usize>(weights: [[(usize, u8); BITS]; PIXELS]) -> [[u8; PIXELS]; 256] {
+    let mut numbers = [[0; PIXELS]; 256];
+    let mut at = 0;
+    while at < 256 * PIXELS * BITS {
+        let (byte, pixel) = (at / BITS / PIXELS, at / BITS % PIXELS);
+        let (bit, weight) = weights[pixel][at % BITS];
+        if byte >> bit & 1 == 1 {
+            numbers[byte][pixel] += weight;
+        }
+        at += 1;
+    }
+    numbers
+}
+
 /// A display byte and how its pixels are to be read.
 #[derive(Clone, Copy)]
 pub struct Cell {
@@ -373,11 +395,11 @@ impl Cell {
     }
 
     fn four(&self, pixel: usize) -> u8 {
-        2 * self.bit(7 - pixel) + self.bit(3 - pixel)
+        FOUR[usize::from(self.byte)][pixel]
     }
 
     fn sixteen(&self, pixel: usize) -> u8 {
-        8 * self.bit(7 - pixel) + 4 * self.bit(3 - pixel) + 2 * self.bit(5 - pixel) + self.bit(1 - pixel)
+        SIXTEEN[usize::from(self.byte)][pixel]
     }
 
     /// Palette number of a dot when the byte has `width` dots; none in 256 colours.

@@ -106,12 +106,12 @@ fn p4_alternate_bits() {
 
 #[test]
 fn p5_four_colours() {
-    assert_eq!(pixels(1, 0, 129), [2, 0, 0, 1]);
+    assert_eq!(pixels(1, 0, 129), [1, 0, 0, 2]);
 }
 
 #[test]
 fn p6_sixteen_colours() {
-    assert_eq!(pixels(2, 0, 160), [10, 0]);
+    assert_eq!(pixels(2, 0, 160), [5, 0]);
 }
 
 #[test]
@@ -594,7 +594,7 @@ fn longest_listing_fits_its_buffer() {
 // ---------------------------------------------------------------------------
 // A slow model, slot by slot and dot by dot
 
-/// Bits of each pixel, the most significant first.
+/// Bits of each pixel, the one that weighs least first.
 const TWO: [&[u32]; 8] = [&[7], &[6], &[5], &[4], &[3], &[2], &[1], &[0]];
 const FOUR: [&[u32]; 4] = [&[7, 3], &[6, 2], &[5, 1], &[4, 0]];
 const SIXTEEN: [&[u32]; 2] = [&[7, 3, 5, 1], &[6, 2, 4, 0]];
@@ -609,7 +609,7 @@ fn groups(colour_mode: u8) -> Vec<&'static [u32]> {
 }
 
 fn raw_index(byte: u8, bits: &[u32]) -> u32 {
-    bits.iter().fold(0, |index, &n| index * 2 + u32::from(byte) / 2u32.pow(n) % 2)
+    bits.iter().rev().fold(0, |index, &n| index * 2 + u32::from(byte) / 2u32.pow(n) % 2)
 }
 
 #[derive(Clone, Default)]

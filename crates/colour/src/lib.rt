@@ -43,7 +43,7 @@ pub fn four_index(byte: u8, k: u8) -> u8
 {
     let upper = bit_of(byte, 7 - k);
     let lower = bit_of(byte, 3 - k);
-    2 * upper + lower
+    upper + 2 * lower
 }
 
 // The palette number of pixel k in sixteen colours.
@@ -55,7 +55,7 @@ pub fn sixteen_index(byte: u8, k: u8) -> u8
     let second = bit_of(byte, 3 - k);
     let third = bit_of(byte, 5 - k);
     let fourth = bit_of(byte, 1 - k);
-    8 * first + 4 * second + 2 * third + fourth
+    first + 2 * second + 4 * third + 8 * fourth
 }
 
 // The pixel at an eighth of the display byte, counted from the left.

@@ -43,13 +43,15 @@ sharing n d j = j * n / d
 abbrev pub twoIndex : ℕ → ℕ → ℕ
 twoIndex byte k = bit (7 - k) byte
 
--- "Four: pairs (b7,b3), (b6,b2), (b5,b1), (b4,b0)." "Here the first named is the most significant."
+-- "Four: pairs (b7,b3), (b6,b2), (b5,b1), (b4,b0)." Document 02, item 2: "the first bit named in a group weighs least: in four
+-- colours b7 weighs 1 and b3 weighs 2"
 unfoldable pub fourIndex : ℕ → ℕ → ℕ
-fourIndex byte k = 2 * bit (7 - k) byte + bit (3 - k) byte
+fourIndex byte k = bit (7 - k) byte + 2 * bit (3 - k) byte
 
--- "Sixteen: (b7,b3,b5,b1), (b6,b2,b4,b0)." "Here the first named is the most significant."
+-- "Sixteen: (b7,b3,b5,b1), (b6,b2,b4,b0)." Document 02, item 2: "in sixteen b7, b3, b5, b1 weigh 1, 2, 4, 8, and the second pixel
+-- likewise"
 unfoldable pub sixteenIndex : ℕ → ℕ → ℕ
-sixteenIndex byte k = 8 * bit (7 - k) byte + 4 * bit (3 - k) byte + 2 * bit (5 - k) byte + bit (1 - k) byte
+sixteenIndex byte k = bit (7 - k) byte + 2 * bit (3 - k) byte + 4 * bit (5 - k) byte + 8 * bit (1 - k) byte
 
 -- pixel k of a display byte, its two-colour indices being raised by `added`; "256: the byte is the colour."
 abbrev pub pixelOf : Colours → ℕ → ℕ → ℕ → Pixel

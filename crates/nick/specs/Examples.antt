@@ -106,10 +106,10 @@ examples =
       want = 2 ∷ 3 ∷ 2 ∷ 2 ∷ 2 ∷ 2 ∷ 2 ∷ 2 ∷ [];
     }
     ∷ record { got = tab (λ k. index (graphicsPixel two (block 0 192 0) 129 k)) 8; want = replicate 8 6 }
-    -- P5 four colours, 129: 2,0,0,1.
-    ∷ record { got = tab (λ k. index (graphicsPixel four zeroBlock 129 k)) 4; want = 2 ∷ 0 ∷ 0 ∷ 1 ∷ [] }
-    -- P6 sixteen, 160: 10, 0.
-    ∷ record { got = tab (λ k. index (graphicsPixel sixteen zeroBlock 160 k)) 2; want = 10 ∷ 0 ∷ [] }
+    -- P5, by document 02, item 2: "Byte 129 in four colours gives 1, 0, 0, 2"
+    ∷ record { got = tab (λ k. index (graphicsPixel four zeroBlock 129 k)) 4; want = 1 ∷ 0 ∷ 0 ∷ 2 ∷ [] }
+    -- P6, by the same: "byte 160 in sixteen gives 5, 0"
+    ∷ record { got = tab (λ k. index (graphicsPixel sixteen zeroBlock 160 k)) 2; want = 5 ∷ 0 ∷ [] }
     -- P7 CH128, LD2 2, code 130: address 258. CH256, LD2 258, code 130: 642. CH64, LD2 1,023, code 255: 65,535.
     ∷ record {
       got = characterFetches 4 2 130 ++ characterFetches 3 258 130 ++ characterFetches 5 1023 255;
