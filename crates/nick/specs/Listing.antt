@@ -50,7 +50,7 @@ numbersAfterName b =
     colourCount (colourNumber b) ∷ number (vres b) ∷ number (vint b) ∷ number (reload b)
     ∷ b .lm ∷ b .rm ∷ b .start .ld1 ∷ b .start .ld2 ∷ b .col
 
--- "An address is sixteen times the block number"
+-- "One tab stands between fields and a line feed ends every line"; "An address is sixteen times the block number"
 unfoldable pub blockLine : ℕ → Block → List ℕ
 blockLine n b =
     decimal (16 * n)
