@@ -1,23 +1,12 @@
 -- The state as 32 bytes.
-use Prim.Native.Nat.{ℕ, _+_, _*_, _/_, _%_}
+use Prim.Native.Nat.{ℕ, _+_, _*_}
 use mathlib.Core.List.{List, [], _∷_}
 use lib.ListN.{take, drop}
 use Rattle.lists.specs.Number.{number}
-use Rattle.nick.specs.Numbers.{isSet, byteAt}
+use Rattle.nick.specs.Numbers.{isSet, low, high, byteAt, pairAt}
 use Rattle.nick.specs.Blocks.{decoded}
 use Rattle.nick.specs.declared.Scan.{Scan}
 use Rattle.nick.specs.declared.State.{State}
-
--- the low and the high byte of a pair, "low first"
-abbrev pub low : ℕ → ℕ
-low n = n % 256
-
-abbrev pub high : ℕ → ℕ
-high n = n / 256
-
--- the pair that starts at a place
-abbrev pub pairAt : List ℕ → ℕ → ℕ
-pairAt b i = byteAt b i + 256 * byteAt b (i + 1)
 
 -- bit 0 reload pending, bit 1 VIRQ low, bit 2 sync on, the rest zero
 unfoldable pub flagsOf : State → ℕ

@@ -1,5 +1,5 @@
--- Bits of a byte, 16-bit pointers, and reading memory.
-use Prim.Native.Nat.{ℕ, _+_, _/_, _%_, _^_}
+-- Bits of a byte, 16-bit pointers, pairs of bytes, and reading memory.
+use Prim.Native.Nat.{ℕ, _+_, _*_, _/_, _%_, _^_}
 use mathlib.Core.Bool.{Bool}
 use mathlib.Core.List.{List}
 use lib.Dec.{eqb}
@@ -17,6 +17,17 @@ isSet k x = eqb (bit k x) 1
 abbrev pub up : ℕ → ℕ → ℕ
 up n pointer = (pointer + n) % 65536
 
+-- the two bytes of a 16-bit number that is stored "low byte first"
+abbrev pub low : ℕ → ℕ
+low n = n % 256
+
+abbrev pub high : ℕ → ℕ
+high n = n / 256
+
 -- the byte at an address; 0 where there is none
 abbrev pub byteAt : List ℕ → ℕ → ℕ
 byteAt bytes address = getD bytes address 0
+
+-- the number that is stored so from an address on
+abbrev pub pairAt : List ℕ → ℕ → ℕ
+pairAt bytes address = byteAt bytes address + 256 * byteAt bytes (address + 1)
