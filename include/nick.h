@@ -33,7 +33,7 @@ extern "C" {
 
 #define NICK_RAM_BYTES 65536 /* video RAM */
 #define NICK_LINE_DOTS 736   /* dots of a scanline */
-#define NICK_RECORD_BYTES 4  /* the record of a scanline */
+#define NICK_RECORD_BYTES 7  /* the record of a scanline */
 #define NICK_MOST_LINES 1024 /* scanlines of one painting */
 
 /* Refusals. 0 is none. 20 is given before all else; of the others, where several apply, the smallest.
@@ -44,7 +44,7 @@ extern "C" {
  *    4  RAM not 65,536 bytes
  *    5  height 0 or over 1,024
  *    6  dot buffer not 736 times the height
- *    7  record buffer not 4 times the height
+ *    7  record buffer not 7 times the height
  *    8  external input neither empty nor 736 times the height
  *    9  direct answer: line over 1,023 or dot over 735
  *   10  listing: output shorter than the whole listing
@@ -65,7 +65,8 @@ uint32_t nick_write(uint8_t *state, size_t state_bytes, uint32_t port, uint8_t v
  *
  * The record: byte 0 has bit 0 VIRQ low, bit 1 VIRQ low and high in the scanline before, bit 2 burst given, bit 3 a block was
  * loaded, bit 4 no scanlines are left, bit 5 video mode 6. Byte 1: slots of 57 at sync level. Byte 2: bytes fetched from video
- * RAM. Byte 3: active slots in modes that fetch.
+ * RAM. Byte 3: active slots in modes that fetch. Byte 4: VC1 (FIXBIAS bit 7), 0 or 1. Bytes 5 and 6: the number of the block
+ * that the scanline is painted with, low byte first.
  *
  * Answers 0, or refusal 3, 4, 6, 7, 8 or 20. */
 uint32_t nick_paint_line(uint8_t *state, size_t state_bytes, const uint8_t *ram, size_t ram_bytes, uint8_t *dots,
@@ -73,7 +74,7 @@ uint32_t nick_paint_line(uint8_t *state, size_t state_bytes, const uint8_t *ram,
                          size_t external_bytes);
 
 /* Paints the next `height` scanlines, as that many single ones in order. Line y has the 736 dots from dot 736 times y on, and
- * the 4 record bytes from byte 4 times y on. Answers 0, or refusal 3 to 8, or 20. */
+ * the 7 record bytes from byte 7 times y on. Answers 0, or refusal 3 to 8, or 20. */
 uint32_t nick_paint(uint8_t *state, size_t state_bytes, const uint8_t *ram, size_t ram_bytes, size_t height, uint8_t *dots,
                     size_t dot_bytes, uint8_t *records, size_t record_bytes, const uint8_t *external,
                     size_t external_bytes);

@@ -34,7 +34,10 @@ static void print_line(size_t y)
     const uint8_t *record = records + NICK_RECORD_BYTES * y;
     const uint8_t *line = dots + NICK_LINE_DOTS * y;
 
-    printf("line %zu: record %d %d %d %d, dots 30 to 41:", y, record[0], record[1], record[2], record[3]);
+    printf("line %zu: record", y);
+    for (int i = 0; i < NICK_RECORD_BYTES; i++)
+        printf(" %d", record[i]);
+    printf(", dots 30 to 41:");
     for (int x = 30; x < 42; x++)
         printf(" %d", line[x]);
     printf("\n");
@@ -48,6 +51,9 @@ int main(void)
     memcpy(ram, table, sizeof table);
     ram[1000] = 165;
     if (nick_fresh(state, sizeof state) != 0)
+        return 1;
+    /* FIXBIAS with VC1 set, and BORDER. */
+    if (nick_write(state, sizeof state, 128, 128) != 0)
         return 1;
     if (nick_write(state, sizeof state, 129, 146) != 0)
         return 1;

@@ -1,4 +1,4 @@
-"""The NICK library from Python: paints the guide's vertical sequence and prints its sync counts. From the repository's root:
+"""The NICK library from Python: paints the guide's vertical sequence and prints what its records say. From the repository's root:
 
     rt staticlib nick_c
     cc -shared -Wl,--whole-archive target/staticlib/libnick_c.a -Wl,--no-whole-archive -o libnick.so
@@ -11,7 +11,7 @@ import ctypes
 import sys
 from ctypes import POINTER, c_size_t, c_uint8, c_uint32, c_uint64
 
-RECORD_BYTES = 4  # the record of a scanline
+RECORD_BYTES = 7  # the record of a scanline
 
 
 class Nick:
@@ -86,6 +86,8 @@ def main():
     print("line 6, dot 9:", nick.dot(ram, 6, 9))
     _, records = nick.paint(ram, 7)
     print("slots at sync level:", list(records[1::RECORD_BYTES]))
+    numbers = zip(records[5::RECORD_BYTES], records[6::RECORD_BYTES])
+    print("blocks in force:", [low + 256 * high for low, high in numbers])
     print("levels of colour 73:", nick.levels(73))
     try:
         nick.write(144, 0)

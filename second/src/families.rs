@@ -385,7 +385,7 @@ pub fn print_coverage() {
     let mut buffers = Buffers::new();
     let mut modes = [[0u64; 4]; 8];
     let mut active = [[0u64; 4]; 8];
-    let mut seen = [0u64; 10];
+    let mut seen = [0u64; 12];
     for case in 0..FRAME_CASES {
         let call = draw_frame(case, &mut buffers);
         let mut state = call.state;
@@ -418,6 +418,8 @@ pub fn print_coverage() {
             seen[7] += u64::from(record[1] > 0);
             seen[8] += u64::from(state.ld1 < before.ld1 && before.ld1 > 65_000 && state.ld1 < 500);
             seen[9] += u64::from(record[3] > 0 && !input.is_empty());
+            seen[10] += u64::from(record[4]);
+            seen[11] += u64::from(record[6] > 0);
         }
     }
     for (mode, counts) in modes.iter().enumerate() {
@@ -425,7 +427,8 @@ pub fn print_coverage() {
     }
     let names = [
         "loads", "loads of SC 0", "loads by RELOAD", "loads of the same number", "4095 to 0",
-        "VIRQ held low", "VIRQ edges", "lines with sync", "LD1 wrapped", "lines with external input",
+        "VIRQ held low", "VIRQ edges", "lines with sync", "LD1 wrapped", "lines with external input", "lines with VC1",
+        "lines of blocks over 255",
     ];
     for (name, count) in names.iter().zip(seen) {
         println!("{name}: {count}");

@@ -5,7 +5,7 @@
 
 pub const RAM_BYTES: usize = 65_536;
 pub const DOTS_PER_LINE: usize = 736;
-pub const BYTES_PER_RECORD: usize = 4;
+pub const BYTES_PER_RECORD: usize = 7;
 pub const MAX_HEIGHT: u32 = 1024;
 const BLOCKS: u16 = 4096;
 
@@ -225,6 +225,10 @@ impl State {
 
     fn priority(&self) -> u8 {
         self.fixbias >> 5 & 3
+    }
+
+    fn vc1(&self) -> u8 {
+        self.fixbias >> 7
     }
 
     /// Number of the block that a load takes now.
@@ -567,7 +571,7 @@ fn paint_slots(state: &mut State, ram: &Ram, dots: &mut [u8], external: &[u8]) {
     }
 }
 
-/// One scanline: 736 dots and 4 record bytes; external input is empty or 736 bytes.
+/// One scanline: 736 dots and a record; external input is empty or 736 bytes.
 fn paint_scanline(state: &mut State, ram: &Ram, dots: &mut [u8], record: &mut [u8], external: &[u8]) {
     let virq_was_low = state.virq_low;
     let loaded = state.start_scanline(ram);
@@ -591,6 +595,8 @@ fn paint_scanline(state: &mut State, ram: &Ram, dots: &mut [u8], record: &mut [u
     record[1] = sync;
     record[2] = 16 * u8::from(loaded) + block.bytes_per_slot() * slots;
     record[3] = slots;
+    record[4] = state.vc1();
+    record[5..].copy_from_slice(&state.number.to_le_bytes());
 }
 
 /// Refusals 3 to 8, the smallest first; 0 if none.

@@ -13,7 +13,9 @@ pub const WRITES: u64 = 5;
 pub const BENCH: u64 = 6;
 
 pub const DOT_BUFFER: usize = 754_400;
-pub const RECORD_BUFFER: usize = 4_104;
+pub const RECORD_BUFFER: usize = 1026 * BYTES_PER_RECORD;
+/// The bytes of an old stored record: a buffer of such records gets refusal 7.
+pub const OLD_BYTES_PER_RECORD: usize = 4;
 pub const LISTING_BUFFER: usize = 330_000;
 /// RAM and one byte more, for the length that is too large.
 pub const RAM_BUFFER: usize = RAM_BYTES + 1;
@@ -249,7 +251,10 @@ impl Call {
             dots = wrong_length(dots, 736, 0, head.faults[7]);
         }
         if head.has_fault(5) {
-            records = wrong_length(records, BYTES_PER_RECORD, 0, head.faults[8]);
+            records = match head.faults[8] % 5 {
+                4 => OLD_BYTES_PER_RECORD * lines,
+                kind => wrong_length(records, BYTES_PER_RECORD, 0, kind),
+            };
         }
         if head.has_fault(6) {
             external = wrong_length(736 * lines, 736, 1, head.faults[9]);

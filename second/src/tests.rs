@@ -159,6 +159,35 @@ fn p10_table_at_the_end() {
     assert_eq!(state.number, 0);
 }
 
+/// "Byte 4 holds VC1 (FIXBIAS bit 7) as 0 or 1": bits 0 to 6 don't count.
+#[test]
+fn vc1_in_the_record() {
+    let ram = table(&[block(254, 3, 8, 9, 0, 0, SAME)]);
+    for fixbias in 0..=255 {
+        let painted = paint(&mut State { fixbias, ..State::fresh() }, &ram, 2);
+        for y in 0..2 {
+            assert_eq!(painted.record(y)[4], if fixbias < 128 { 0 } else { 1 });
+        }
+    }
+}
+
+/// "Bytes 5 and 6 the number of the block in force, low byte first": two lines of each block from 254 on, then 4,095 and 0.
+#[test]
+fn block_numbers_in_the_record() {
+    let mut ram = vec![0; RAM_BYTES];
+    for n in 0..4096 {
+        ram[16 * n] = 254;
+    }
+    let mut state = State { lpl: 254, ..State::fresh() };
+    let painted = paint(&mut state, &ram, 8);
+    let numbers: Vec<&[u8]> = (0..8).map(|y| &painted.record(y)[5..]).collect();
+    assert_eq!(numbers, [[254, 0], [254, 0], [255, 0], [255, 0], [0, 1], [0, 1], [1, 1], [1, 1]]);
+    let mut state = State { lpl: 255, lph: 255, ..State::fresh() };
+    let painted = paint(&mut state, &ram, 3);
+    let numbers: Vec<&[u8]> = (0..3).map(|y| &painted.record(y)[5..]).collect();
+    assert_eq!(numbers, [[255, 15], [255, 15], [0, 0]]);
+}
+
 fn vertical_sequence() -> Vec<u8> {
     table(&[
         block(253, 0, 63, 0, 0, 0, [0; 8]),
@@ -303,23 +332,32 @@ fn refusals_3_to_8_of_painting() {
     let good = State::fresh();
     let left = State { left: 257, ..good };
     let number = State { number: 4096, ..good };
-    assert_eq!(refused(left, 65_536, 1, 736, 4, 0), 3);
-    assert_eq!(refused(number, 65_536, 1, 736, 4, 0), 3);
+    assert_eq!(refused(left, 65_536, 1, 736, 7, 0), 3);
+    assert_eq!(refused(number, 65_536, 1, 736, 7, 0), 3);
     assert_eq!(refused(left, 0, 0, 1, 1, 1), 3);
     for ram in [0, 65_535, 65_537] {
-        assert_eq!(refused(good, ram, 1, 736, 4, 0), 4);
+        assert_eq!(refused(good, ram, 1, 736, 7, 0), 4);
     }
     assert_eq!(refused(good, 0, 0, 1, 1, 1), 4);
     assert_eq!(refused(good, 65_536, 0, 0, 0, 0), 5);
-    assert_eq!(refused(good, 65_536, 1025, 736 * 1025, BYTES_PER_RECORD * 1025, 0), 5);
+    assert_eq!(refused(good, 65_536, 1025, 736 * 1025, 7 * 1025, 0), 5);
     assert_eq!(refused(good, 65_536, u32::MAX, 1, 1, 1), 5);
-    assert_eq!(refused(good, 65_536, 2, 736, 8, 0), 6);
-    assert_eq!(refused(good, 65_536, 2, 1473, 7, 1), 6);
-    assert_eq!(refused(good, 65_536, 2, 1472, 7, 0), 7);
-    assert_eq!(refused(good, 65_536, 2, 1472, 9, 1), 7);
+    assert_eq!(refused(good, 65_536, 2, 736, 14, 0), 6);
+    assert_eq!(refused(good, 65_536, 2, 1473, 13, 1), 6);
+    assert_eq!(refused(good, 65_536, 2, 1472, 13, 0), 7);
+    assert_eq!(refused(good, 65_536, 2, 1472, 15, 1), 7);
     assert_eq!(refused(good, 65_536, 2, 1472, 0, 0), 7);
-    assert_eq!(refused(good, 65_536, 2, 1472, 8, 736), 8);
-    assert_eq!(refused(good, 65_536, 2, 1472, 8, 1473), 8);
+    assert_eq!(refused(good, 65_536, 2, 1472, 14, 736), 8);
+    assert_eq!(refused(good, 65_536, 2, 1472, 14, 1473), 8);
+}
+
+/// "Old stored records, lent with their own height, get refusal 7": they have 4 bytes a line.
+#[test]
+fn refusal_7_of_old_records() {
+    for height in 1..=1024 {
+        let lines = height as usize;
+        assert_eq!(refused(State::fresh(), 65_536, height, 736 * lines, 4 * lines, 0), 7);
+    }
 }
 
 #[test]
@@ -534,7 +572,7 @@ fn modes_without_fetches() {
         let painted = paint_with(&mut numbered(), &ram, 1, &[128; 736]);
         assert_eq!(painted.dots, [colour; 736]);
         assert_eq!(painted.record(0)[0], bits);
-        assert_eq!(painted.record(0)[2..], [16, 0]);
+        assert_eq!(painted.record(0)[2..4], [16, 0]);
     }
 }
 
@@ -775,7 +813,8 @@ fn slow_line(s: &mut State, ram: &[u8]) -> SlowLine {
         }
     }
     s.virq_low = low;
-    let record = [bits, sync, fetches.len() as u8, active];
+    let vc1 = u8::from(s.fixbias >= 128);
+    let record = [bits, sync, fetches.len() as u8, active, vc1, (s.number % 256) as u8, (s.number / 256) as u8];
     SlowLine { dots, fetches, record, blank: mode == 0 }
 }
 
@@ -811,6 +850,8 @@ fn slow_colour(s: &State, line: &SlowLine, dot: usize, external: u8) -> u8 {
 fn frames_agree_with_the_slow_model() {
     let mut buffers = Buffers::new();
     let mut lines = 0;
+    let mut with_vc1 = [0; 2];
+    let mut beyond_255 = 0;
     for case in 0..600 {
         let call = draw_frame(case, &mut buffers);
         let ram = &buffers.ram[..call.ram];
@@ -831,10 +872,13 @@ fn frames_agree_with_the_slow_model() {
                 assert_eq!(slow_colour(&slow, &line, x, input), dots[736 * y + x]);
             }
             lines += 1;
+            with_vc1[usize::from(line.record[4])] += 1;
+            beyond_255 += u32::from(line.record[6] > 0);
         }
         assert_eq!(slow, state);
     }
     assert!(lines > 3000);
+    assert!(with_vc1[0] > 1000 && with_vc1[1] > 1000 && beyond_255 > 1000);
 }
 
 #[test]

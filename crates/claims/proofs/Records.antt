@@ -1,26 +1,30 @@
--- The line records of paintings: a painted record never begins with 255, a refused painting's records are 255 throughout, and
--- byte 2 counts at most 108 fetches.
+-- The line records of paintings: a painted record never begins with 255, a refused painting's records are 255 throughout,
+-- byte 2 counts at most 108 fetches, byte 4 is VC1, and bytes 5 and 6 number the block in force.
 use mathlib.Core.Path.{_≡_, refl, sym, ap, _∙_}
 use mathlib.Core.Bool.{Bool, true, false, not, cond, _&&_}
-use mathlib.Core.List.{List, []}
-use Prim.Native.Nat.{ℕ, zero, suc, _*_, _≤_, _<_}
-use native.Mathlib.Nat.{add-zero}
+use mathlib.Core.List.{List, [], _∷_, _++_}
+use Prim.Native.Nat.{ℕ, zero, suc, _+_, _*_, _≤_, _<_}
+use native.Mathlib.Nat.{add-zero, add-assoc}
 use native.Mathlib.Omega.{arith}
 use lib.ListN.{length, length-append, getD-replicate}
 use Rattle.lists.proofs.Tests.{number-le}
 use Rattle.nick.specs.Sizes.{recordBytes}
-use Rattle.nick.specs.Numbers.{bit, byteAt}
-use Rattle.nick.specs.Blocks.{vint, loads, loadedNumber, blockAddresses, begun}
-use Rattle.nick.specs.Slots.{Mode, VSYNC, PIXEL, ATTR, CH, UNUSED, LPIXEL, modeOf, slotFetches}
-use Rattle.nick.specs.Scanline.{activeAt, pointersAfter, slotAddresses, slotsFetched, begunFetches, lineFetches}
-use Rattle.nick.specs.Sync.{syncs}
-use Rattle.nick.specs.Record.{isUnused, flags, lineRecord, stateAfter}
-use Rattle.nick.specs.Painting.{painted, refusedPainting, paint}
+use Rattle.nick.specs.Numbers.{bit, byteAt, pairAt}
+use Rattle.nick.specs.Registers.{writtenRegisters, writtenScan, written}
+use Rattle.nick.specs.Blocks.{vint, loads, loadedNumber, decoded, blockAt, blockAddresses, loaded, continued, begun}
+use Rattle.nick.specs.Slots.{Mode, VSYNC, PIXEL, ATTR, CH, UNUSED, LPIXEL, modeNumbered, modeOf, slotFetches}
+use Rattle.nick.specs.Scanline.{activeAt, pointersAfter, slotAddresses, slotsFetched, begunFetches, lineFetches, ended, nextScan}
+use Rattle.nick.specs.Sync.{syncs, lineSync, lineSyncCount}
+use Rattle.nick.specs.Record.{isUnused, flags, lineRecord, nextState, stateAfter}
+use Rattle.nick.specs.Painting.{frameRecords, painted, refusedPainting, paint}
+use Rattle.nick.specs.Examples.{lastBase, lastBlock}
 use Rattle.nick.specs.declared.Registers.{Registers}
 use Rattle.nick.specs.declared.Pointers.{Pointers}
 use Rattle.nick.specs.declared.Block.{Block}
 use Rattle.nick.specs.declared.Scan.{Scan}
 use Rattle.nick.specs.declared.State.{State}
+use Rattle.nick.proofs.Bits.{pair}
+use Rattle.laws.proofs.StatesAfter.{registers-kept}
 use Rattle.laws.proofs.Frames.{record-byte}
 use Rattle.laws.proofs.Paintings.{refusal-is, accepted-is, refused-is}
 
@@ -50,20 +54,72 @@ high-bits-zero ram s = zero-above (byteAt (lineRecord ram s) 0) (first-below ram
     zero-above : (n : ℕ) → n < 64 → (bit 6 n ≡ 0) × (bit 7 n ≡ 0)
     zero-above n h = omega arith
 
+-- document 02, item 7: "byte 4 holds VC1 (FIXBIAS bit 7) as 0 or 1"
+pub vc1-is : (ram : List ℕ) (s : State) → byteAt (lineRecord ram s) 4 ≡ bit 7 (s .registers .fixbias)
+unfolding lineRecord
+vc1-is ram s = refl
+
+-- "bytes 5 and 6 the number of the block in force, low byte first": that is the number in the state after the line
+pub number-is : (ram : List ℕ) (s : State) → pairAt (lineRecord ram s) 5 ≡ nextState ram s .scan .number
+unfolding lineRecord nextState nextScan ended
+number-is ram s = pair (begun (s .registers) ram (s .scan) .number)
+
+-- it is that of the block which the line loads, or else of the stored one
+begun-number :
+    (g : Registers) (ram : List ℕ) (c : Scan) → begun g ram c .number ≡ cond (loads c) (loadedNumber g c) (c .number)
+unfolding begun loaded continued
+begun-number g ram c = go (loads c)
+  where
+    begins : Bool → Scan
+    begins t = cond t (loaded g (loadedNumber g c) (blockAt ram (loadedNumber g c))) (continued c)
+
+    go : (t : Bool) → begins t .number ≡ cond t (loadedNumber g c) (c .number)
+    go true = refl
+    go false = refl
+
+pub in-force :
+    (ram : List ℕ) (s : State)
+    → pairAt (lineRecord ram s) 5 ≡ cond (loads (s .scan)) (loadedNumber (s .registers) (s .scan)) (s .scan .number)
+unfolding lineRecord
+in-force ram s = pair (begun (s .registers) ram (s .scan) .number) ∙ begun-number (s .registers) ram (s .scan)
+
+-- Computed: FIXBIAS 128, and P10's table. The first line loads block 4,095, which has one scanline, the second block 0.
+pub worked :
+    frameRecords lastBlock 2 (written lastBase 128 128)
+    ≡ (24 ∷ 0 ∷ 16 ∷ 0 ∷ 1 ∷ 255 ∷ 15 ∷ []) ++ (8 ∷ 0 ∷ 16 ∷ 0 ∷ 1 ∷ 0 ∷ 0 ∷ [])
+unfolding
+    writtenRegisters writtenScan written loaded loadedNumber decoded blockAt blockAddresses continued begun modeNumbered
+    begunFetches lineFetches ended nextScan lineSync lineSyncCount flags lineRecord nextState
+worked = refl
+
 module _ (s : State) (ram : List ℕ) (h : ℕ) (dots records external : List ℕ) where
-  -- a line that was painted can be told from a refusal's stamp by byte 0
-  pub accepted-records :
-      paint s ram h dots records external .refusal ≡ 0
-      → (y : ℕ) → y < h
-      → byteAt (paint s ram h dots records external .records) (recordBytes * y) < 64
-  unfolding painted
-  accepted-records e y l =
-      rw (
-        accepted-is s ram h dots records external (sym (refusal-is s ram h dots records external) ∙ e),
-        ← add-zero (recordBytes * y),
-        record-byte ram s h y 0 l (omega arith),
-      )
-      (first-below ram (stateAfter ram y s))
+  -- the record of line y of a painting that is not refused
+  module _ (e : paint s ram h dots records external .refusal ≡ 0) (y : ℕ) (l : y < h) where
+    accepted-byte :
+        (i : ℕ) → i < recordBytes
+        → byteAt (paint s ram h dots records external .records) (recordBytes * y + i)
+        ≡ byteAt (lineRecord ram (stateAfter ram y s)) i
+    unfolding painted
+    accepted-byte i b =
+        rw (accepted-is s ram h dots records external (sym (refusal-is s ram h dots records external) ∙ e))
+        (record-byte ram s h y i l b)
+
+    -- a line that was painted can be told from a refusal's stamp by byte 0
+    pub accepted-records : byteAt (paint s ram h dots records external .records) (recordBytes * y) < 64
+    accepted-records =
+        rw (← add-zero (recordBytes * y), accepted-byte 0 (omega arith)) (first-below ram (stateAfter ram y s))
+
+    -- its byte 4, and the number in its bytes 5 and 6
+    pub accepted-vc1 :
+        byteAt (paint s ram h dots records external .records) (recordBytes * y + 4) ≡ bit 7 (s .registers .fixbias)
+    accepted-vc1 =
+        rw (accepted-byte 4 (omega arith), vc1-is ram (stateAfter ram y s), registers-kept ram y s)
+
+    pub accepted-numbers :
+        pairAt (paint s ram h dots records external .records) (recordBytes * y + 5) ≡ stateAfter ram (suc y) s .scan .number
+    accepted-numbers =
+        rw (add-assoc (recordBytes * y) 5 1, accepted-byte 5 (omega arith), accepted-byte 6 (omega arith))
+        (number-is ram (stateAfter ram y s))
 
   -- "writes 255 over the whole record buffer, whatever its length"
   pub refused-records :

@@ -13,7 +13,7 @@ fn print_words(refusal: u8) {
         4 => io::write_all(STDOUT_FILENO, b"RAM not 65,536 bytes"),
         5 => io::write_all(STDOUT_FILENO, b"height 0 or over 1,024"),
         6 => io::write_all(STDOUT_FILENO, b"dot buffer not 736 times the height"),
-        7 => io::write_all(STDOUT_FILENO, b"record buffer not 4 times the height"),
+        7 => io::write_all(STDOUT_FILENO, b"record buffer not 7 times the height"),
         8 => io::write_all(
             STDOUT_FILENO,
             b"external input neither empty nor 736 times the height",

@@ -75,7 +75,7 @@ module _ (ram : List ℕ) (n : ℕ) (s : State) where
       ∙ ap (λ (l : List ℕ). rows (frameRecord ram s) n ++ l)
       (rows-same (λ y. frameRecord ram s (n + y)) laterRecord record-later m))
 
--- "Records: 4 bytes per scanline."
+-- "Records grow from 4 to 7 bytes" (document 02, item 7)
 pub length-record : (ram : List ℕ) (s : State) → length (lineRecord ram s) ≡ recordBytes
 unfolding lineRecord
 length-record ram s = refl

@@ -28,7 +28,7 @@ frameDots ram external (suc n) s =
     frameDots ram external n s
     ++ lineDots (s .registers) ram (stateAfter ram n s .scan) (externalAt external n)
 
--- their records: "4 bytes per scanline"
+-- their records, one after another
 abbrev pub frameRecords : List ℕ → ℕ → State → List ℕ
 frameRecords ram zero s = []
 frameRecords ram (suc n) s = frameRecords ram n s ++ lineRecord ram (stateAfter ram n s)

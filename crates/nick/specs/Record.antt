@@ -1,14 +1,16 @@
--- Document 01, "The line record", and one scanline as a step from state to state.
+-- Document 01, "The line record", with document 02, item 7, and one scanline as a step from state to state.
 use Prim.Native.Nat.{ℕ, zero, suc, _+_, _*_}
 use mathlib.Core.Bool.{Bool, not, cond, _&&_}
 use mathlib.Core.List.{List, [], _∷_}
 use lib.Dec.{eqb}
 use lib.ListN.{length}
 use Rattle.lists.specs.Number.{number}
+use Rattle.nick.specs.Numbers.{bit, low, high}
 use Rattle.nick.specs.Blocks.{loads, begun, vint}
 use Rattle.nick.specs.Slots.{modeNumber, modeOf, modeFetches, activeSlots}
 use Rattle.nick.specs.Scanline.{lineFetches, nextScan}
 use Rattle.nick.specs.Sync.{syncs, lineSync, lineSyncCount}
+use Rattle.nick.specs.declared.Registers.{Registers}
 use Rattle.nick.specs.declared.Block.{Block}
 use Rattle.nick.specs.declared.State.{State}
 
@@ -31,7 +33,12 @@ flags b wasLow load last =
 abbrev pub fetchingSlots : Block → ℕ
 fetchingSlots b = cond (modeFetches (modeOf b)) (activeSlots b) 0
 
--- the record of the next scanline; "Byte 2: the number of bytes fetched from video RAM in this scanline, 16 for a load included"
+-- item 7: "byte 4 holds VC1 (FIXBIAS bit 7) as 0 or 1"
+abbrev pub vc1 : Registers → ℕ
+vc1 g = bit 7 (g .fixbias)
+
+-- the record of the next scanline; "Byte 2: the number of bytes fetched from video RAM in this scanline, 16 for a load
+-- included"; item 7: "bytes 5 and 6 the number of the block in force, low byte first": after the load, if there is one
 unfoldable pub lineRecord : List ℕ → State → List ℕ
 lineRecord ram s =
     let c = begun (s .registers) ram (s .scan) in
@@ -39,6 +46,9 @@ lineRecord ram s =
     ∷ lineSyncCount (c .block) (s .sync)
     ∷ length (lineFetches (s .registers) ram (s .scan))
     ∷ fetchingSlots (c .block)
+    ∷ vc1 (s .registers)
+    ∷ low (c .number)
+    ∷ high (c .number)
     ∷ []
 
 -- one scanline, as a step of the whole state

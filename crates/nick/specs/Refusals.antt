@@ -32,7 +32,7 @@ badHeight h = eqb h 0 || ltb 1024 h
 abbrev pub badDots : ℕ → List ℕ → Bool
 badDots h dots = not (eqb (length dots) (736 * h))
 
--- 7: "record buffer not 4 times the height"
+-- 7: "record buffer not .. times the height"; document 02, item 7: "Refusal 7 now asks 7 times the height."
 abbrev pub badRecords : ℕ → List ℕ → Bool
 badRecords h records = not (eqb (length records) (recordBytes * h))
 

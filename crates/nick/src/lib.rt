@@ -6,7 +6,7 @@ ghost use Rattle.nick.specs.Internal.{registeredAs};
 ghost use Rattle.nick.specs.Levels.{levelsOf};
 
 // How many bytes the record of a scanline has.
-pub const RECORD_BYTES: usize = 4;
+pub const RECORD_BYTES: usize = 7;
 
 // The four registers that a program can write.
 pub struct Registers {

@@ -6,10 +6,11 @@ use Prim.Native.Nat.{ℕ, _+_, _*_, _/_, _%_}
 use lib.Dec.{eqb}
 use lib.ListN.{length, length-append}
 use Rattle.lists.proofs.Laws.{length-tab}
+use Rattle.nick.specs.Numbers.{low, high}
 use Rattle.nick.specs.Blocks.{loads, loadedNumber, blockAddresses, begun}
 use Rattle.nick.specs.Scanline.{begunDots, lineDots, begunFetches, lineFetches, ended, nextScan}
 use Rattle.nick.specs.Sync.{lineSync, lineSyncCount}
-use Rattle.nick.specs.Record.{flags, fetchingSlots, lineRecord, nextState}
+use Rattle.nick.specs.Record.{flags, fetchingSlots, vc1, lineRecord, nextState}
 use Rattle.nick.specs.declared.Pointers.{Pointers}
 use Rattle.nick.specs.declared.Scan.{Scan}
 use Rattle.nick.specs.declared.State.{State}
@@ -43,7 +44,7 @@ module _ (s : State) (ram : List ℕ) (c : Scan) (begins : c ≡ begun (s .regis
       let end : d ≡ ended c = hd ∙ (ap (endedAt c) hp ∙ ended-at c) in
       rw (end, hon, begins)
 
-  pub record-is : (d : Scan) (p : Pointers) (load : Bool) (f l k y n : ℕ)
+  pub record-is : (d : Scan) (p : Pointers) (load : Bool) (f l k y n v : ℕ)
       → d ≡ endedAt c p
       → load ≡ loads (s .scan)
       → f ≡ flags (c .block) (s .virq) load (eqb (d .left) 0)
@@ -51,9 +52,10 @@ module _ (s : State) (ram : List ℕ) (c : Scan) (begins : c ≡ begun (s .regis
       → l ≡ cond load 16 0
       → k ≡ length (begunFetches ram c)
       → n ≡ fetchingSlots (c .block)
-      → f ∷ y ∷ (l + k) ∷ n ∷ [] ≡ lineRecord ram s
+      → v ≡ vc1 (s .registers)
+      → f ∷ y ∷ (l + k) ∷ n ∷ v ∷ low (d .number) ∷ high (d .number) ∷ [] ≡ lineRecord ram s
   unfolding lineRecord lineFetches nextScan ended endedAt
-  record-is d p load f l k y n hd hload hf hy hl hk hn =
+  record-is d p load f l k y n v hd hload hf hy hl hk hn hv =
       rw (
         hf,
         hd,
@@ -61,6 +63,7 @@ module _ (s : State) (ram : List ℕ) (c : Scan) (begins : c ≡ begun (s .regis
         hl,
         hk,
         hn,
+        hv,
         hload,
         begins,
         length-append (cond (loads (s .scan)) (blockAddresses (loadedNumber (s .registers) (s .scan))) []) (begunFetches ram (begun (s .registers) ram (s .scan))),

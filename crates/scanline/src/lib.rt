@@ -21,6 +21,7 @@ use records::flag_byte;
 use records::put_record;
 use records::slots_byte;
 use records::sync_line;
+use records::vc1_byte;
 use slots::Slot;
 use slots::paint_slot;
 
@@ -166,6 +167,8 @@ pub fn paint_scanline(
         sync: sync.count,
         fetched,
         slots: slots_byte(block),
+        vc1: vc1_byte(registers),
+        number: scan.number,
     };
     put_record(line, recorded);
     // VINT in line: with `has_vint` here painting is slower (docs/DECISIONS.md 35).

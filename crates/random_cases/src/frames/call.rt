@@ -8,6 +8,9 @@ use lists::smaller;
 use nick::RECORD_BYTES;
 use nick::State;
 
+// The bytes of an old stored record: a buffer of such records gets refusal 7.
+const OLD_RECORD_BYTES: usize = 4;
+
 // A call: of one line or of `height` lines, from a state, with buffers of these lengths.
 pub struct Call {
     pub single: bool,
@@ -85,7 +88,7 @@ fn dots_length(head: Head, lent: usize) -> usize
     right
 }
 
-// The length of records, wrong by fault 5.
+// The length of records, wrong by fault 5: as other lengths are, or that of old records.
 fn records_length(head: Head, lent: usize) -> usize
     requires { ⌜ lent ≤ 1025 ⌝ }
     ensures { λ r. ⌜ r ≤ recordBytes * 1026 ⌝ }
@@ -93,7 +96,11 @@ fn records_length(head: Head, lent: usize) -> usize
     let right = RECORD_BYTES * lent;
     if cases::has_fault(head, 5) {
         let t = head.t;
-        return wrong(t[8], right, 4, 0);
+        let kind = t[8] % 5;
+        if kind == 4 {
+            return OLD_RECORD_BYTES * lent;
+        }
+        return wrong(kind, right, RECORD_BYTES, 0);
     }
     right
 }

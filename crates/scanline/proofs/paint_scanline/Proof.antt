@@ -42,9 +42,12 @@ add-fetched c = search needs
 slots-byte-requires : tie.Need-slots-byte-requires
 slots-byte-requires c κs = search needs
 
+vc1-byte-requires : tie.Need-vc1-byte-requires
+vc1-byte-requires c κs = search needs
+
 put-record-requires : tie.Need-put-record-requires
 put-record-requires c κs =
-    c .before .before .before .before .before .before .before .before .before .before .before .before .before .before .before .before .before .before .before .before .before .pre .0 .2
+    c .before .before .before .before .before .before .before .before .before .before .before .before .before .before .before .before .before .before .before .before .before .before .pre .0 .2
 
 same-length : tie.Need-same-length
 same-length c = search needs
@@ -55,7 +58,8 @@ same-length-2 c = search needs
 returns : tie.Need-returns
 returns c =
     let put = c .before .before .before in
-    let active = put .before .before in
+    let vc1 = put .before .before in
+    let active = vc1 .before in
     let load = active .before .before in
     let flags = load .before in
     let sync = flags .before .before in
@@ -69,8 +73,9 @@ returns c =
     record {
       dots = slots .paint-slots .ensures .dots ∙ dots-are (a .state) (a .ram .now) begun begins _;
       bytes = put .put-record .ensures
-          ∙ record-is (a .state) (a .ram .now) begun begins _ _ (loading .is-loading .result) _ _ _ _ _ (end .end-scan .ensures) (loading .is-loading .ensures)
-          (flags .flag-byte .ensures) (sync .sync-line .ensures .slots) (load .load-fetches .ensures .0) (slots .paint-slots .ensures .fetched) (active .slots-byte .ensures);
+          ∙ record-is (a .state) (a .ram .now) begun begins _ _ (loading .is-loading .result) _ _ _ _ _ _ (end .end-scan .ensures) (loading .is-loading .ensures)
+          (flags .flag-byte .ensures) (sync .sync-line .ensures .slots) (load .load-fetches .ensures .0) (slots .paint-slots .ensures .fetched) (active .slots-byte .ensures)
+          (vc1 .vc1-byte .ensures);
       state = state-is (a .state) (a .ram .now) begun begins (end .end-scan .result) _ (sync .sync-line .result .on) (end .end-scan .ensures)
           (slots .paint-slots .ensures .at) (sync .sync-line .ensures .level);
     }
@@ -88,6 +93,7 @@ paint-scanline-spec =
     load-fetches-requires
     add-fetched
     slots-byte-requires
+    vc1-byte-requires
     put-record-requires
     same-length
     same-length-2
