@@ -1,7 +1,6 @@
 -- `records::put_record`: as many stores as the record has bytes make the whole of it; a store leaves the length.
-use mathlib.Core.List.{[], _∷_, _++_}
+use mathlib.Core.List.{[], _∷_}
 use native.Mathlib.Omega.{arith}
-use lib.ListN.{take}
 use lib.Seq.{lt-length-sets}
 use Rattle.lists.proofs.Laws.{stored-all}
 use Rattle.records.specs.RecordBytes.{bytesOf}
@@ -30,17 +29,17 @@ slice-write-out-4 c = search needs
 slice-write-out-5 : tie.Need-slice-write-out-5
 slice-write-out-5 c =
     let start = c .before .before .before in
-    lt-length-sets (start .args .out .now) 0 (take 4 (bytesOf (start .args .line))) (omega (arith, start .pre))
+    lt-length-sets (start .args .out .now) 0 (_ ∷ _ ∷ _ ∷ _ ∷ []) (omega (arith, start .pre))
 
 slice-write-out-6 : tie.Need-slice-write-out-6
 slice-write-out-6 c =
     let start = c .before .before .before in
-    lt-length-sets (start .args .out .now) 0 (take 5 (bytesOf (start .args .line))) (omega (arith, start .pre))
+    lt-length-sets (start .args .out .now) 0 (_ ∷ _ ∷ _ ∷ _ ∷ _ ∷ []) (omega (arith, start .pre))
 
 slice-write-out-7 : tie.Need-slice-write-out-7
 slice-write-out-7 c =
     let start = c .before .before .before in
-    lt-length-sets (start .args .out .now) 0 (take 5 (bytesOf (start .args .line)) ++ (_ ∷ [])) (omega (arith, start .pre))
+    lt-length-sets (start .args .out .now) 0 (_ ∷ _ ∷ _ ∷ _ ∷ _ ∷ _ ∷ []) (omega (arith, start .pre))
 
 same-length : tie.Need-same-length
 same-length c = search needs
