@@ -7,7 +7,7 @@ use Prim.Native.Nat.{ℕ, zero, suc, _+_, _*_, _≤_, _<_}
 use native.Mathlib.Nat.{add-zero, add-assoc}
 use native.Mathlib.Omega.{arith}
 use lib.ListN.{length, length-append, getD-replicate}
-use Rattle.lists.proofs.Tests.{number-le}
+use Rattle.lists.proofs.Tests.{number-le, apply-cond}
 use Rattle.nick.specs.Sizes.{recordBytes}
 use Rattle.nick.specs.Numbers.{bit, byteAt, pairAt}
 use Rattle.nick.specs.Registers.{writtenRegisters, writtenScan, written}
@@ -68,14 +68,8 @@ number-is ram s = pair (begun (s .registers) ram (s .scan) .number)
 begun-number :
     (g : Registers) (ram : List ℕ) (c : Scan) → begun g ram c .number ≡ cond (loads c) (loadedNumber g c) (c .number)
 unfolding begun loaded continued
-begun-number g ram c = go (loads c)
-  where
-    begins : Bool → Scan
-    begins t = cond t (loaded g (loadedNumber g c) (blockAt ram (loadedNumber g c))) (continued c)
-
-    go : (t : Bool) → begins t .number ≡ cond t (loadedNumber g c) (c .number)
-    go true = refl
-    go false = refl
+begun-number g ram c =
+    apply-cond (λ (d : Scan). d .number) (loads c) (loaded g (loadedNumber g c) (blockAt ram (loadedNumber g c))) (continued c)
 
 pub in-force :
     (ram : List ℕ) (s : State)

@@ -1,4 +1,4 @@
--- General laws on tests: joined tests, tests as numbers, and choices between numbers.
+-- General laws on tests: joined tests, tests as numbers, and choices by a test.
 use mathlib.Core.Path.{_≡_, refl}
 use mathlib.Core.Bool.{Bool, true, false, cond, _||_}
 use Prim.Native.Nat.{ℕ, suc, _<_, _≤_}
@@ -39,6 +39,11 @@ rest-zero false n r e = e
 pub cond-below : (t : Bool) (a b n : ℕ) → a < n → b < n → cond t a b < n
 cond-below true a b n ha hb = ha
 cond-below false a b n ha hb = hb
+
+-- a function of a choice chooses between its values
+pub apply-cond : {A B : Type 0} (f : A → B) (t : Bool) (a b : A) → f (cond t a b) ≡ cond t (f a) (f b)
+apply-cond f true a b = refl
+apply-cond f false a b = refl
 
 -- a value chosen by whether a number is 0, which is not the second choice: the number is 0, and it is the first
 pub chosen : {A : Type 0} (n : ℕ) (v a b : A) → (v ≡ b → ⊥) → v ≡ cond (eqb n 0) a b → (n ≡ 0) × (v ≡ a)

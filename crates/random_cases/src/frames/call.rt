@@ -75,17 +75,24 @@ fn wrong(kind: u8, right: usize, unit: usize, other: usize) -> usize
     }
 }
 
+// A wrong length of dots or of external input.
+fn wrong_dots(kind: u8, lent: usize, other: usize) -> usize
+    requires { ⌜ (lent ≤ 1025) × (other ≤ 1) ⌝ }
+    ensures { λ r. ⌜ r ≤ 754400 ⌝ }
+{
+    smaller(wrong(kind, 736 * lent, 736, other), 754400)
+}
+
 // The length of dots, wrong by fault 4.
 fn dots_length(head: Head, lent: usize) -> usize
     requires { ⌜ lent ≤ 1025 ⌝ }
     ensures { λ r. ⌜ r ≤ 754400 ⌝ }
 {
-    let right = 736 * lent;
     if cases::has_fault(head, 4) {
         let t = head.t;
-        return smaller(wrong(t[7], right, 736, 0), 754400);
+        return wrong_dots(t[7], lent, 0);
     }
-    right
+    736 * lent
 }
 
 // The length of records, wrong by fault 5: as other lengths are, or that of old records.
@@ -110,12 +117,11 @@ fn external_length(head: Head, lent: usize) -> usize
     requires { ⌜ lent ≤ 1025 ⌝ }
     ensures { λ r. ⌜ r ≤ 754400 ⌝ }
 {
-    let right = 736 * lent;
     if cases::has_fault(head, 6) {
         let t = head.t;
-        return smaller(wrong(t[9], right, 736, 1), 754400);
+        return wrong_dots(t[9], lent, 1);
     }
-    if head.g / 8 % 2 == 1 { right } else { 0 }
+    if head.g / 8 % 2 == 1 { 736 * lent } else { 0 }
 }
 
 // The call of a case, with its faults.
