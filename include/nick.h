@@ -36,6 +36,8 @@ extern "C" {
 #define NICK_RECORD_BYTES 7  /* the record of a scanline */
 #define NICK_MOST_LINES 1024 /* scanlines of one painting */
 
+#define NICK_COMPARISON_BYTES 14 /* the answer of a comparison */
+
 /* Refusals. 0 is none. 20 is given before all else; of the others, where several apply, the smallest.
  *
  *    1  register write: port outside 128 to 143
@@ -49,10 +51,11 @@ extern "C" {
  *    9  direct answer: line over 1,023 or dot over 735
  *   10  listing: output shorter than the whole listing
  *   11  given by no call
- *   20  state not 32 bytes
+ *   12  comparison: a record begins with 255, as those of a refused painting do
+ *   20  state not 32 bytes; answer of a comparison not 14
  *
- * A refused call leaves every byte of the state, the dots and the listing's output as it was. A refused painting writes 255
- * over the whole record buffer, whatever its length. */
+ * A refused call leaves every byte of the state, the dots, the listing's output and the comparison's answer as it was. A refused
+ * painting writes 255 over the whole record buffer, whatever its length. */
 
 /* Writes the fresh state: all zero but LPH 192 and a pending reload. Answers 0, or refusal 20. */
 uint32_t nick_fresh(uint8_t *state, size_t state_bytes);
@@ -100,6 +103,24 @@ uint64_t nick_list(const uint8_t *state, size_t state_bytes, const uint8_t *ram,
 
 /* The levels of a colour byte: red + 256 * green + 65,536 * blue; red and green are 0 to 7, blue is 0 to 3. */
 uint32_t nick_levels(uint8_t colour);
+
+/* Compares a capture with a frame, dot by dot: two dot buffers and their two record buffers, for the same height. Nothing but
+ * `answer` is written.
+ *
+ *   bits 0 to  7  the refusal: 0, 5, 6, 7, 12 or 20
+ *   bits 8 to 15  the side that 6, 7 and 12 name: 1 the capture, also where both sides are at fault, 2 the frame; else 0
+ *
+ * If the refusal is 0, `answer` has, pairs and fours with the low byte first:
+ *
+ *   0  how many dots differ, in four bytes
+ *   4  the line of the first of them    6  its dot in that line    (65,535 both if none differs)
+ *   8  of red the smallest difference of levels, capture minus frame, over all dots    9  the largest
+ *  10, 11  of green    12, 13  of blue
+ *
+ * The differences are signed bytes: -7 to 7 of red and green, -3 to 3 of blue. */
+uint32_t nick_compare(size_t height, const uint8_t *capture, size_t capture_bytes, const uint8_t *capture_records,
+                      size_t capture_record_bytes, const uint8_t *frame, size_t frame_bytes,
+                      const uint8_t *frame_records, size_t frame_record_bytes, uint8_t *answer, size_t answer_bytes);
 
 #ifdef __cplusplus
 }

@@ -1,4 +1,5 @@
-/* Paints the guide's vertical sequence and a PIXEL mode line, and prints a few records and dots. From the repository's root:
+/* Paints the guide's vertical sequence and a PIXEL mode line, prints a few records and dots, and compares the frame with one that has
+ * two dots changed. From the repository's root:
  *
  *   rt staticlib nick_c
  *   cc -std=c11 -Wall -Wextra -Werror -Iinclude examples/c/main.c target/staticlib/libnick_c.a -o nick-example
@@ -18,6 +19,8 @@ static uint8_t ram[NICK_RAM_BYTES];
 static uint8_t dots[NICK_LINE_DOTS * HEIGHT];
 static uint8_t records[NICK_RECORD_BYTES * HEIGHT];
 static uint8_t text[1000];
+static uint8_t capture[sizeof dots];
+static uint8_t stamped[sizeof records];
 static const uint8_t nothing_connected[1];
 
 /* SC, MB, LM, RM, LD1, LD2, COL0 to COL7. The last block has VRES and RELOAD. */
@@ -43,6 +46,22 @@ static void print_line(size_t y)
     printf("\n");
 }
 
+/* Compares the capture with the painted frame, the capture's records being as given. */
+static void print_comparison(const uint8_t *capture_records)
+{
+    uint8_t answer[NICK_COMPARISON_BYTES] = {0};
+    uint32_t told = nick_compare(HEIGHT, capture, sizeof capture, capture_records, sizeof records, dots, sizeof dots, records,
+                                 sizeof records, answer, sizeof answer);
+    const int8_t *ranges = (const int8_t *)answer + 8;
+
+    printf("comparison: refusal %d, side %d", (int)(told & 255), (int)(told >> 8));
+    if (told == 0)
+        printf(", %d dots differ, first line %d, dot %d; red %d to %d, green %d to %d, blue %d to %d", answer[0] + 256 * answer[1],
+               answer[4] + 256 * answer[5], answer[6] + 256 * answer[7], ranges[0], ranges[1], ranges[2], ranges[3], ranges[4],
+               ranges[5]);
+    printf("\n");
+}
+
 int main(void)
 {
     static const size_t shown[] = {0, 3, 4, 5, 6, 25, 26};
@@ -65,6 +84,13 @@ int main(void)
         return 1;
     for (size_t i = 0; i < sizeof shown / sizeof shown[0]; i++)
         print_line(shown[i]);
+
+    memcpy(capture, dots, sizeof dots);
+    capture[NICK_LINE_DOTS * 25 + 32] = 0;
+    capture[NICK_LINE_DOTS * 26 + 40] = 219;
+    print_comparison(records);
+    memset(stamped, 255, sizeof stamped);
+    print_comparison(stamped);
 
     /* The same dot without painting, from the state before. */
     uint64_t answer = nick_dot(before, sizeof before, ram, sizeof ram, FIRST_PICTURE_LINE, 32, 0);

@@ -1,4 +1,5 @@
-"""The NICK library from Python: paints the guide's vertical sequence and prints what its records say. From the repository's root:
+"""The NICK library from Python: paints the guide's vertical sequence, prints what its records say, and compares it with a frame
+that has a dot changed. From the repository's root:
 
     rt staticlib nick_c
     cc -shared -Wl,--whole-archive target/staticlib/libnick_c.a -Wl,--no-whole-archive -o libnick.so
@@ -8,6 +9,7 @@ include/nick.h says what each function does.
 """
 
 import ctypes
+import struct
 import sys
 from ctypes import POINTER, c_size_t, c_uint8, c_uint32, c_uint64
 
@@ -28,6 +30,7 @@ class Nick:
             ("nick_dot", c_uint64, buffer * 2 + [c_size_t, c_size_t, c_uint8]),
             ("nick_list", c_uint64, buffer * 3),
             ("nick_levels", c_uint32, [c_uint8]),
+            ("nick_compare", c_uint32, [c_size_t] + buffer * 5),
         ]:
             function = getattr(self.library, name)
             function.restype = answer
@@ -74,6 +77,14 @@ class Nick:
         packed = self.library.nick_levels(colour)
         return packed % 256, packed // 256 % 256, packed // 65536
 
+    def compare(self, height, capture, capture_records, frame, frame_records):
+        """How many dots differ, the first one's line and dot or None, and the ranges of red, green and blue, capture minus frame."""
+        answer = bytearray(14)
+        self._call("nick_compare", height, capture, capture_records, frame, frame_records, answer)
+        differing, line, dot, *levels = struct.unpack("<IHH6b", answer)
+        first = None if line == 65535 else (line, dot)
+        return differing, first, list(zip(levels[::2], levels[1::2]))
+
 
 def main():
     nick = Nick(sys.argv[1])
@@ -84,11 +95,16 @@ def main():
     ram[48:52] = bytes([237, 3, 6, 63])
     print(nick.listing(ram), end="")
     print("line 6, dot 9:", nick.dot(ram, 6, 9))
-    _, records = nick.paint(ram, 7)
+    dots, records = nick.paint(ram, 7)
     print("slots at sync level:", list(records[1::RECORD_BYTES]))
     numbers = zip(records[5::RECORD_BYTES], records[6::RECORD_BYTES])
     print("blocks in force:", [low + 256 * high for low, high in numbers])
     print("levels of colour 73:", nick.levels(73))
+    capture = bytearray(dots)
+    capture[736 * 6 + 9] = 73
+    print("compared:", nick.compare(7, capture, records, dots, records))
+    print("exchanged:", nick.compare(7, dots, records, capture, records))
+    print("with itself:", nick.compare(7, dots, records, dots, records))
     try:
         nick.write(144, 0)
     except ValueError as refused:

@@ -47,6 +47,19 @@ mod declared {
             out_bytes: usize,
         ) -> u64;
         pub fn nick_levels(colour: u8) -> u32;
+        pub fn nick_compare(
+            height: usize,
+            capture: *const u8,
+            capture_bytes: usize,
+            capture_records: *const u8,
+            capture_record_bytes: usize,
+            frame: *const u8,
+            frame_bytes: usize,
+            frame_records: *const u8,
+            frame_record_bytes: usize,
+            answer: *mut u8,
+            answer_bytes: usize,
+        ) -> u32;
     }
 }
 
@@ -136,4 +149,31 @@ pub fn list(state: &[u8], ram: &[u8], out: &mut [u8]) -> Result<usize, u32> {
 pub fn levels(colour: u8) -> (u8, u8, u8) {
     let levels = unsafe { declared::nick_levels(colour) };
     (levels as u8, (levels >> 8) as u8, (levels >> 16) as u8)
+}
+
+/// Compares a capture with a frame into the answer's 14 bytes. The refusal and the number of the side that it names, 0 for none.
+pub fn compare(
+    height: usize,
+    capture: &[u8],
+    capture_records: &[u8],
+    frame: &[u8],
+    frame_records: &[u8],
+    answer: &mut [u8],
+) -> (u8, u8) {
+    let told = unsafe {
+        declared::nick_compare(
+            height,
+            capture.as_ptr(),
+            capture.len(),
+            capture_records.as_ptr(),
+            capture_records.len(),
+            frame.as_ptr(),
+            frame.len(),
+            frame_records.as_ptr(),
+            frame_records.len(),
+            answer.as_mut_ptr(),
+            answer.len(),
+        )
+    };
+    (told as u8, (told >> 8) as u8)
 }

@@ -9,6 +9,9 @@
 //! printed, so that a run can be repeated. The first difference is told, and ends the run with status 1.
 
 #[allow(dead_code)]
+#[path = "../../second/src/compare.rs"]
+mod compare;
+#[allow(dead_code)]
 #[path = "../../second/src/families.rs"]
 mod families;
 #[path = "library.rs"]
@@ -20,9 +23,10 @@ mod nick;
 #[path = "../../second/src/random.rs"]
 mod random;
 
+use compare::{Comparison, Side};
 use families::{draw_frame, Buffers};
 use nick::State;
-use random::{state_bytes, Head, Question, Random, Write};
+use random::{state_bytes, Head, Pair, Question, Random, Write};
 use std::process::ExitCode;
 use std::time::{SystemTime, UNIX_EPOCH};
 
@@ -50,7 +54,7 @@ fn main() -> ExitCode {
         }
     };
     println!("seed {seed}");
-    match compare(cases, seed) {
+    match compare_all(cases, seed) {
         Ok(()) => {
             println!("{cases} cases of each family: no difference");
             ExitCode::SUCCESS
@@ -68,7 +72,7 @@ fn fresh_seed() -> u64 {
     now.as_nanos() as u64 % (1 << 39)
 }
 
-fn compare(cases: u64, seed: u64) -> Outcome {
+fn compare_all(cases: u64, seed: u64) -> Outcome {
     compare_fresh()?;
     compare_levels()?;
     let mut lent = Buffers::new();
@@ -79,6 +83,7 @@ fn compare(cases: u64, seed: u64) -> Outcome {
         compare_dots(case, &mut lent).map_err(told)?;
         compare_listings(case, &mut lent, &mut kept).map_err(told)?;
         compare_writes(case).map_err(told)?;
+        compare_comparisons(case).map_err(told)?;
     }
     Ok(())
 }
@@ -244,4 +249,36 @@ fn compare_writes(case: u64) -> Outcome {
         same_bytes("state of another length", &wrong, &wrong_state(case))?;
     }
     Ok(())
+}
+
+/// One comparison into the answer's bytes, and one into an answer of another length.
+fn compare_comparisons(case: u64) -> Outcome {
+    let Pair { asked, capture, frame } = Pair::draw(case);
+    let compare = |answer: &mut [u8]| {
+        library::compare(asked as usize, &capture.dots, &capture.records, &frame.dots, &frame.records, answer)
+    };
+    let mut answer = [90; 14];
+    let told = compare(&mut answer);
+    let expected = compare::compare(asked, &capture.dots, &capture.records, &frame.dots, &frame.records);
+    same("refusal of a comparison", told, expected.map_or_else(|(refusal, side)| (refusal, side as u8), |_| (0, 0)))?;
+    same_bytes("answer of a comparison", &answer, &expected.map_or([90; 14], |found| comparison_bytes(&found)))?;
+
+    let length = (case % 28) as usize;
+    let mut wrong = vec![90; length + length / 14];
+    same("answer of another length", compare(&mut wrong), (WRONG_LENGTH as u8, Side::Neither as u8))?;
+    same("answer of another length kept", wrong.iter().all(|&byte| byte == 90), true)
+}
+
+/// The bytes of a comparison, as the header has them.
+fn comparison_bytes(found: &Comparison) -> [u8; 14] {
+    let mut bytes = [255; 14];
+    bytes[..4].copy_from_slice(&found.differing.to_le_bytes());
+    if let Some((line, dot)) = found.first {
+        bytes[4..6].copy_from_slice(&(line as u16).to_le_bytes());
+        bytes[6..8].copy_from_slice(&(dot as u16).to_le_bytes());
+    }
+    for (place, range) in found.ranges.iter().enumerate() {
+        bytes[8 + 2 * place..10 + 2 * place].copy_from_slice(&[range.smallest as u8, range.largest as u8]);
+    }
+    bytes
 }

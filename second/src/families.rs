@@ -1,5 +1,6 @@
 //! Runs the families of cases and prints their digests.
 
+use crate::compare::{compare, Comparison, Side};
 use crate::nick::{self, Answer, Block, Cell, State, BYTES_PER_RECORD};
 use crate::random::*;
 
@@ -7,6 +8,7 @@ pub const FRAME_CASES: u64 = 2000;
 pub const DOT_CASES: u64 = 1000;
 pub const LISTING_CASES: u64 = 400;
 pub const WRITE_CASES: u64 = 1000;
+pub const COMPARISON_CASES: u64 = 1000;
 
 const QUESTIONS: usize = 8;
 const WRITES_PER_CASE: usize = 16;
@@ -32,12 +34,15 @@ impl Buffers {
     }
 }
 
+/// Refusal numbers run to 19, and 0 is an accepted call.
+const REFUSALS: usize = 20;
+
 /// How often each refusal number was given.
-pub struct Tally([u64; 12]);
+pub struct Tally([u64; REFUSALS]);
 
 impl Tally {
     pub fn new() -> Tally {
-        Tally([0; 12])
+        Tally([0; REFUSALS])
     }
 
     fn add(&mut self, refusal: u8) {
@@ -63,11 +68,12 @@ pub struct Family {
     pub run: Run,
 }
 
-pub const FAMILIES: [Family; 4] = [
+pub const FAMILIES: [Family; 5] = [
     Family { name: "frames", cases: FRAME_CASES, per_line: 50, run: run_frame },
     Family { name: "dots", cases: DOT_CASES, per_line: 25, run: run_dots },
     Family { name: "listings", cases: LISTING_CASES, per_line: 10, run: run_listing },
     Family { name: "writes", cases: WRITE_CASES, per_line: 25, run: run_writes },
+    Family { name: "comparisons", cases: COMPARISON_CASES, per_line: 25, run: run_comparison },
 ];
 
 /// All cases: one line for each group, then the refusals.
@@ -221,6 +227,37 @@ fn run_writes(case: u64, _: &mut Buffers, digest: &mut Digest, tally: &mut Tally
         told.push_str(&format!("\nport {} data {}: refusal {refusal}", write.port, write.data));
     }
     told
+}
+
+fn run_comparison(case: u64, _: &mut Buffers, digest: &mut Digest, tally: &mut Tally) -> String {
+    let Pair { asked, capture, frame } = Pair::draw(case);
+    digest.number(asked);
+    for lent in [&capture.dots, &capture.records, &frame.dots, &frame.records] {
+        digest.bytes(lent);
+    }
+    let answer = compare(asked, &capture.dots, &capture.records, &frame.dots, &frame.records);
+    tally.add(answer.map_or_else(|(refusal, _)| refusal, |_| 0));
+    digest_comparison(digest, &answer);
+    format!(
+        "height {asked} capture: dots {} records {} frame: dots {} records {}\n{answer:?}",
+        capture.dots.len(), capture.records.len(), frame.dots.len(), frame.records.len()
+    )
+}
+
+fn digest_comparison(digest: &mut Digest, answer: &Result<Comparison, (u8, Side)>) {
+    match answer {
+        Err((refusal, side)) => digest.bytes(&[*refusal, *side as u8]),
+        Ok(comparison) => {
+            digest.bytes(&[0, Side::Neither as u8]);
+            digest.number(comparison.differing);
+            let (line, dot) = comparison.first.unwrap_or((65_535, 65_535));
+            digest.bytes(&(line as u16).to_le_bytes());
+            digest.bytes(&(dot as u16).to_le_bytes());
+            for range in comparison.ranges {
+                digest.bytes(&[range.smallest as u8, range.largest as u8]);
+            }
+        }
+    }
 }
 
 // ---------------------------------------------------------------------------

@@ -1,22 +1,25 @@
 //! The second program: an independent NICK painter for comparison by digests.
 
+mod compare;
 mod families;
 mod nick;
 mod random;
 #[cfg(test)]
 mod tests;
 
+use compare::{Comparison, Side};
 use families::FAMILIES;
 use std::io::Write;
 use std::process::ExitCode;
 
 const USAGE: &str = "usage:
-  second frames|dots|listings|writes [CASE]
+  second frames|dots|listings|writes|comparisons [CASE]
   second colours
   second coverage
   second list RAMFILE FIXBIAS BORDER LPL LPH
   second dot RAMFILE FIXBIAS BORDER LPL LPH LINE DOT EXTERNAL
   second paint RAMFILE FIXBIAS BORDER LPL LPH HEIGHT DOTSFILE RECORDSFILE
+  second compare HEIGHT CAPTURE CAPTURE-RECORDS FRAME FRAME-RECORDS
   second bench MODE N [COLOURMODE]";
 
 fn main() -> ExitCode {
@@ -42,6 +45,7 @@ fn run(words: &[&str]) -> Result<(), String> {
         ["paint", file, registers @ .., height, dots, records] if registers.len() == 4 => {
             return paint(file, registers, number(height)?, dots, records)
         }
+        ["compare", height, files @ ..] if files.len() == 4 => return compare_files(number(height)?, files),
         ["bench", mode, times] => bench(mode, times, 0..4)?,
         ["bench", mode, times, colours] => {
             let first = number::<u8>(colours)?.min(4);
@@ -96,8 +100,7 @@ fn dot_words(file: &str, registers: &[&str], line: u32, dot: u32, external: u8) 
     let ram = read(file)?;
     let state = state_of(registers)?;
     let answer = nick::ask_dot(&state, &ram, line, dot, external).map_err(|n| format!("refusal {n}"))?;
-    let (red, green, blue) = nick::levels(answer.colour);
-    println!("colour {}: red {red} of 7, green {green} of 7, blue {blue} of 3", answer.colour);
+    println!("{}", colour_words(answer.colour));
     for address in &answer.addresses[..answer.count] {
         println!("from address {address}: {}", ram[usize::from(*address)]);
     }
@@ -105,6 +108,11 @@ fn dot_words(file: &str, registers: &[&str], line: u32, dot: u32, external: u8) 
         println!("from no byte of RAM (border, blanking or unused mode)");
     }
     Ok(())
+}
+
+fn colour_words(colour: u8) -> String {
+    let (red, green, blue) = nick::levels(colour);
+    format!("colour {colour}: red {red} of 7, green {green} of 7, blue {blue} of 3")
 }
 
 fn paint(file: &str, registers: &[&str], height: u32, dots: &str, records: &str) -> Result<(), String> {
@@ -118,4 +126,35 @@ fn paint(file: &str, registers: &[&str], height: u32, dots: &str, records: &str)
     }
     std::fs::write(dots, dot_bytes).map_err(|error| format!("{dots}: {error}"))?;
     std::fs::write(records, record_bytes).map_err(|error| format!("{records}: {error}"))
+}
+
+/// The files: the capture, its records, the frame, its records.
+fn compare_files(height: u32, files: &[&str]) -> Result<(), String> {
+    let lent = files.iter().map(|file| read(file)).collect::<Result<Vec<_>, _>>()?;
+    let comparison = compare::compare(height, &lent[0], &lent[1], &lent[2], &lent[3]).map_err(refusal_words)?;
+    print!("{}", comparison_words(&comparison, &lent[0], &lent[2]));
+    Ok(())
+}
+
+fn refusal_words((number, side): (u8, Side)) -> String {
+    match side {
+        Side::Neither => format!("refusal {number}"),
+        Side::Capture => format!("refusal {number} of the capture"),
+        Side::Frame => format!("refusal {number} of the frame"),
+    }
+}
+
+fn comparison_words(comparison: &Comparison, capture: &[u8], frame: &[u8]) -> String {
+    let mut words = format!("{} of {} dots differ\n", comparison.differing, capture.len());
+    match comparison.first {
+        Some((line, dot)) => {
+            let place = nick::DOTS_PER_LINE * line + dot;
+            words.push_str(&format!("first: line {line}, dot {dot}\n"));
+            words.push_str(&format!("capture: {}\n", colour_words(capture[place])));
+            words.push_str(&format!("frame: {}\n", colour_words(frame[place])));
+        }
+        None => words.push_str("first: none\n"),
+    }
+    let [red, green, blue] = comparison.ranges.map(|range| format!("{} to {}", range.smallest, range.largest));
+    words + &format!("capture minus frame: red {red}, green {green}, blue {blue}\n")
 }

@@ -1,7 +1,7 @@
 //! The seeded generator, the digest and the random cases.
 //! README.md specifies all of it under "Random cases".
 
-use crate::nick::{Block, State, BYTES_PER_RECORD, RAM_BYTES};
+use crate::nick::{Block, State, BYTES_PER_RECORD, RAM_BYTES, REFUSED_RECORD};
 
 const SEED: u64 = 88_172_645_463_325_252;
 const DIGEST_START: u64 = 1_469_598_103_934_665_603;
@@ -11,6 +11,7 @@ pub const DOTS: u64 = 2;
 pub const LISTINGS: u64 = 3;
 pub const WRITES: u64 = 5;
 pub const BENCH: u64 = 6;
+pub const COMPARISONS: u64 = 7;
 
 pub const DOT_BUFFER: usize = 754_400;
 pub const RECORD_BUFFER: usize = 1026 * BYTES_PER_RECORD;
@@ -206,6 +207,24 @@ impl Head {
             _ => 32_768,
         }
     }
+
+    /// Length of dots for the lines; with fault n it is wrong, how is in byte t of the faults.
+    fn dots_length(&self, lines: usize, n: u8, t: usize) -> usize {
+        let right = 736 * lines;
+        let length = if self.has_fault(n) { wrong_length(right, 736, 0, self.faults[t]) } else { right };
+        length.min(DOT_BUFFER)
+    }
+
+    /// Length of records for the lines; with fault n it is wrong, how is in byte t of the faults.
+    fn records_length(&self, lines: usize, n: u8, t: usize) -> usize {
+        let right = BYTES_PER_RECORD * lines;
+        let length = match self.faults[t] % 5 {
+            _ if !self.has_fault(n) => right,
+            4 => OLD_BYTES_PER_RECORD * lines,
+            kind => wrong_length(right, BYTES_PER_RECORD, 0, kind),
+        };
+        length.min(RECORD_BUFFER)
+    }
 }
 
 fn drawn_height(bytes: [u8; 3]) -> u32 {
@@ -244,18 +263,7 @@ impl Call {
     pub fn of(head: &Head) -> Call {
         let single = head.call % 8 == 0;
         let (asked, lines) = heights(head, single);
-        let mut dots = 736 * lines;
-        let mut records = BYTES_PER_RECORD * lines;
         let mut external = if bit(head.call, 3) { 736 * lines } else { 0 };
-        if head.has_fault(4) {
-            dots = wrong_length(dots, 736, 0, head.faults[7]);
-        }
-        if head.has_fault(5) {
-            records = match head.faults[8] % 5 {
-                4 => OLD_BYTES_PER_RECORD * lines,
-                kind => wrong_length(records, BYTES_PER_RECORD, 0, kind),
-            };
-        }
         if head.has_fault(6) {
             external = wrong_length(736 * lines, 736, 1, head.faults[9]);
         }
@@ -264,8 +272,8 @@ impl Call {
             state: head.faulty_state(),
             asked,
             ram: head.ram_length(),
-            dots: dots.min(DOT_BUFFER),
-            records: records.min(RECORD_BUFFER),
+            dots: head.dots_length(lines, 4, 7),
+            records: head.records_length(lines, 5, 8),
             external: external.min(DOT_BUFFER),
         }
     }
@@ -401,6 +409,89 @@ impl Write {
             _ => u32::from_le_bytes(bytes),
         };
         Write { port, data }
+    }
+}
+
+/// The dots and records of one side of a comparison.
+pub struct Picture {
+    pub dots: Vec<u8>,
+    pub records: Vec<u8>,
+}
+
+impl Picture {
+    fn new(dots: usize, records: usize) -> Picture {
+        Picture { dots: vec![0; dots], records: vec![85; records] }
+    }
+}
+
+/// A comparison: the height asked and the two sides.
+pub struct Pair {
+    pub asked: u32,
+    pub capture: Picture,
+    pub frame: Picture,
+}
+
+impl Pair {
+    pub fn draw(case: u64) -> Pair {
+        let mut random = Random::new(COMPARISONS, case);
+        let head = Head::draw(&mut random);
+        let (asked, lines) = heights(&head, false);
+        let mut capture = Picture::new(head.dots_length(lines, 4, 7), head.records_length(lines, 5, 8));
+        let mut frame = Picture::new(head.dots_length(lines, 0, 4), head.records_length(lines, 6, 9));
+        draw_external(&mut random, &mut capture.dots);
+        draw_frame_dots(&mut random, &head, &mut capture.dots, &mut frame.dots);
+        draw_stamp(&mut random, head.has_fault(1), &mut capture.records);
+        draw_stamp(&mut random, head.has_fault(2), &mut frame.records);
+        Pair { asked, capture, frame }
+    }
+}
+
+/// The dots of the frame, which are 0 before: like the capture's, or drawn, or both sides of one colour.
+fn draw_frame_dots(random: &mut Random, head: &Head, capture: &mut [u8], frame: &mut [u8]) {
+    match head.call % 4 {
+        0 => copy_dots(capture, frame),
+        1 => {
+            copy_dots(capture, frame);
+            change_dots(random, 1 + head.call / 4, frame);
+        }
+        2 => draw_external(random, frame),
+        _ => {
+            frame.fill(head.state.fixbias);
+            capture.fill(head.state.border);
+        }
+    }
+}
+
+/// Copies as far as both go.
+fn copy_dots(capture: &[u8], frame: &mut [u8]) {
+    for (dot, &captured) in frame.iter_mut().zip(capture) {
+        *dot = captured;
+    }
+}
+
+fn change_dots(random: &mut Random, changes: u8, dots: &mut [u8]) {
+    for _ in 0..changes {
+        let low = usize::from(random.word());
+        let high = usize::from(random.byte());
+        let colour = random.byte();
+        if !dots.is_empty() {
+            dots[(low + 65_536 * high) % dots.len()] = colour;
+        }
+    }
+}
+
+/// Draws a stamp: at the start of a record with the fault, else anywhere or nowhere.
+fn draw_stamp(random: &mut Random, fault: bool, records: &mut [u8]) {
+    let kind = random.byte();
+    let word = usize::from(random.word());
+    if records.is_empty() {
+        return;
+    }
+    let place = word % records.len();
+    if fault {
+        records[place - place % BYTES_PER_RECORD] = REFUSED_RECORD;
+    } else if kind % 4 == 0 {
+        records[place] = REFUSED_RECORD;
     }
 }
 

@@ -1,9 +1,11 @@
-//! The fixed examples, the refusals, the slips, and comparisons with a
-//! slow model that follows the paper sentence by sentence.
+//! The fixed examples, the refusals, the slips, and comparisons with
+//! slow models that follow the papers sentence by sentence.
 
-use crate::families::{first_bytes, draw_frame, mode_block, mode_cell, Buffers};
+use crate::compare::{compare, Comparison, Range, Side};
+use crate::families::{first_bytes, draw_frame, mode_block, mode_cell, Buffers, COMPARISON_CASES};
 use crate::nick::*;
 use crate::random::*;
+use crate::{comparison_words, refusal_words};
 
 // ---------------------------------------------------------------------------
 // Helpers
@@ -982,6 +984,347 @@ fn external_groups_agree_with_the_rule() {
             assert_eq!(with_external(priority, index, external), if wins { ec } else { index });
         }
     }
+}
+
+// ---------------------------------------------------------------------------
+// A capture compared with a frame
+
+type Compared = Result<Comparison, (u8, Side)>;
+
+fn compare_pair(pair: &Pair) -> Compared {
+    let Pair { asked, capture, frame } = pair;
+    compare(*asked, &capture.dots, &capture.records, &frame.dots, &frame.records)
+}
+
+/// Whole sides, the capture of one colour and the frame of another.
+fn plain_pair(height: u32, captured: u8, painted: u8) -> Pair {
+    let lines = height as usize;
+    let side = |colour: u8| Picture { dots: vec![colour; 736 * lines], records: vec![0; 7 * lines] };
+    Pair { asked: height, capture: side(captured), frame: side(painted) }
+}
+
+fn ranges(bounds: [(i8, i8); 3]) -> [Range; 3] {
+    bounds.map(|(smallest, largest)| Range { smallest, largest })
+}
+
+/// The levels that document 01 names: colour 73 has red 7, colour 36 blue 3.
+#[test]
+fn differences_of_named_colours() {
+    for (captured, painted, bounds) in [
+        (73, 0, [(7, 7), (0, 0), (0, 0)]),
+        (0, 73, [(-7, -7), (0, 0), (0, 0)]),
+        (36, 0, [(0, 0), (0, 0), (3, 3)]),
+        (73, 36, [(7, 7), (0, 0), (-3, -3)]),
+        (146, 255, [(-7, -7), (0, 0), (-3, -3)]),
+        (64, 128, [(1, 1), (-1, -1), (0, 0)]),
+    ] {
+        let answer = compare_pair(&plain_pair(2, captured, painted));
+        assert_eq!(answer, Ok(Comparison { differing: 1472, first: Some((0, 0)), ranges: ranges(bounds) }));
+    }
+}
+
+#[test]
+fn equal_sides_have_no_first_dot() {
+    for height in [1, 2, 312, 1024] {
+        for colour in [0, 73, 255] {
+            let answer = compare_pair(&plain_pair(height, colour, colour));
+            assert_eq!(answer, Ok(Comparison { differing: 0, first: None, ranges: ranges([(0, 0); 3]) }));
+        }
+    }
+}
+
+/// One dot apart, at the ends of lines and of the largest frame.
+#[test]
+fn first_dot_at_the_ends_of_lines() {
+    for (height, line, dot) in [(2, 0, 0), (2, 0, 735), (2, 1, 0), (2, 1, 735), (1, 0, 735), (1024, 1023, 735)] {
+        let mut pair = plain_pair(height, 0, 0);
+        pair.capture.dots[736 * line + dot] = 255;
+        let answer = compare_pair(&pair);
+        let one = Comparison { differing: 1, first: Some((line, dot)), ranges: ranges([(0, 7), (0, 7), (0, 3)]) };
+        assert_eq!(answer, Ok(one));
+    }
+}
+
+/// The smallest line comes first, and only then the smallest dot.
+#[test]
+fn first_line_before_first_dot() {
+    let mut pair = plain_pair(3, 0, 0);
+    pair.frame.dots[736 + 700] = 73;
+    pair.frame.dots[2 * 736] = 36;
+    let answer = compare_pair(&pair).unwrap();
+    assert_eq!((answer.differing, answer.first), (2, Some((1, 700))));
+    assert_eq!(answer.ranges, ranges([(-7, 0), (0, 0), (-3, 0)]));
+}
+
+/// "Taken over all dots": a range keeps to what the dots have, and one dot more widens it.
+#[test]
+fn ranges_of_dots_that_all_differ() {
+    let mut pair = plain_pair(1024, 255, 0);
+    let all = Comparison { differing: 753_664, first: Some((0, 0)), ranges: ranges([(7, 7), (7, 7), (3, 3)]) };
+    assert_eq!(compare_pair(&pair), Ok(all));
+    pair.capture.dots[753_663] = 0;
+    let but_one = Comparison { differing: 753_663, ranges: ranges([(0, 7), (0, 7), (0, 3)]), ..all };
+    assert_eq!(compare_pair(&pair), Ok(but_one));
+}
+
+/// All differences are 0 exactly if the colours are the same.
+#[test]
+fn levels_determine_the_colour() {
+    for (captured, painted) in (0..=255).flat_map(|c| (0..=255).map(move |p| (c, p))) {
+        let answer = compare_pair(&plain_pair(1, captured, painted)).unwrap();
+        assert_eq!(answer.ranges == ranges([(0, 0); 3]), captured == painted);
+        assert_eq!(answer.differing, if captured == painted { 0 } else { 736 });
+        assert!(answer.ranges.iter().all(|range| range.smallest == range.largest));
+    }
+}
+
+/// Every fault that a comparison can have, with the number and side it has alone.
+const FAULTS: [(u8, Side); 7] = [
+    (12, Side::Frame),
+    (12, Side::Capture),
+    (7, Side::Frame),
+    (7, Side::Capture),
+    (6, Side::Frame),
+    (6, Side::Capture),
+    (5, Side::Neither),
+];
+
+fn make_fault(pair: &mut Pair, (number, side): (u8, Side)) {
+    let picture = if side == Side::Capture { &mut pair.capture } else { &mut pair.frame };
+    match number {
+        5 => pair.asked = 1025,
+        6 => picture.dots.push(0),
+        7 => picture.records.push(0),
+        _ => picture.records[7] = 255,
+    }
+}
+
+/// All sets of faults: the smallest number first, and only then the side.
+#[test]
+fn refusals_of_comparisons() {
+    for set in 1..128 {
+        let faults: Vec<(u8, Side)> = (0..7).filter(|n| set >> n & 1 == 1).map(|n| FAULTS[n]).collect();
+        let mut pair = plain_pair(2, 1, 2);
+        for &fault in &faults {
+            make_fault(&mut pair, fault);
+        }
+        let (number, alone) = *faults.iter().min_by_key(|(number, _)| number).unwrap();
+        let side = if faults.contains(&(number, Side::Capture)) { Side::Capture } else { alone };
+        assert_eq!(compare_pair(&pair), Err((number, side)));
+    }
+    assert_eq!(compare_pair(&plain_pair(2, 1, 2)).unwrap().differing, 1472);
+}
+
+#[test]
+fn refusal_5_of_comparisons() {
+    for height in [0, 1025, 65_537, u32::MAX] {
+        assert_eq!(compare(height, &[], &[], &[], &[]), Err((5, Side::Neither)));
+    }
+    assert_eq!(compare_pair(&plain_pair(0, 0, 0)), Err((5, Side::Neither)));
+    assert_eq!(compare_pair(&plain_pair(1025, 0, 0)), Err((5, Side::Neither)));
+    assert!(compare_pair(&plain_pair(1, 0, 0)).is_ok());
+    assert!(compare_pair(&plain_pair(1024, 0, 0)).is_ok());
+}
+
+/// Lengths of 6 and 7: only 736 and 7 times the height are right.
+#[test]
+fn refusals_6_and_7_of_comparisons() {
+    let (dots, records) = (vec![0; 3000], vec![0; 30]);
+    for length in [0, 735, 736, 1471, 1473, 2208] {
+        let (lent, right) = (&dots[..length], &dots[..1472]);
+        assert_eq!(compare(2, lent, &[], right, &[]), Err((6, Side::Capture)));
+        assert_eq!(compare(2, right, &[], lent, &[]), Err((6, Side::Frame)));
+        assert_eq!(compare(2, lent, &[], lent, &[]), Err((6, Side::Capture)));
+    }
+    let dots = &dots[..1472];
+    for length in (0..30).filter(|&length| length != 14) {
+        let (lent, right) = (&records[..length], &records[..14]);
+        assert_eq!(compare(2, dots, lent, dots, right), Err((7, Side::Capture)));
+        assert_eq!(compare(2, dots, right, dots, lent), Err((7, Side::Frame)));
+        assert_eq!(compare(2, dots, lent, dots, lent), Err((7, Side::Capture)));
+    }
+}
+
+/// Document 02, item 7: records of 4 bytes a line get 7, even where they are stamped.
+#[test]
+fn refusal_7_of_old_records_in_comparisons() {
+    for height in [1, 2, 7, 312, 1024] {
+        let old = vec![255; 4 * height as usize];
+        let Pair { capture, frame, .. } = plain_pair(height, 0, 0);
+        let of_capture = compare(height, &capture.dots, &old, &frame.dots, &frame.records);
+        assert_eq!(of_capture, Err((7, Side::Capture)));
+        let of_frame = compare(height, &capture.dots, &capture.records, &frame.dots, &old);
+        assert_eq!(of_frame, Err((7, Side::Frame)));
+    }
+}
+
+/// 255 counts at the start of a record only, in every line.
+#[test]
+fn refusal_12_of_comparisons() {
+    for place in 0..21 {
+        let (mut captured, mut painted) = (plain_pair(3, 1, 1), plain_pair(3, 1, 1));
+        captured.capture.records[place] = 255;
+        painted.frame.records[place] = 255;
+        let begins = [0, 7, 14].contains(&place);
+        assert_eq!(compare_pair(&captured).err(), begins.then_some((12, Side::Capture)));
+        assert_eq!(compare_pair(&painted).err(), begins.then_some((12, Side::Frame)));
+    }
+    let mut pair = plain_pair(1024, 1, 1);
+    pair.capture.records.fill(254);
+    assert!(compare_pair(&pair).is_ok());
+    pair.frame.records[7 * 1023] = 255;
+    assert_eq!(compare_pair(&pair), Err((12, Side::Frame)));
+    pair.capture.records[7 * 1023] = 255;
+    assert_eq!(compare_pair(&pair), Err((12, Side::Capture)));
+}
+
+/// The records of a refused painting give 12, those of an accepted one don't.
+#[test]
+fn painted_records_in_comparisons() {
+    let painted = paint(&mut State::fresh(), &vertical_sequence(), 25);
+    let Painted { dots, records } = &painted;
+    assert_eq!(compare(25, dots, records, dots, records).unwrap().first, None);
+    let mut stamped = records.clone();
+    let mut kept = dots.clone();
+    assert_eq!(paint_frame(&mut State::fresh(), &[], 25, &mut kept, &mut stamped, &[]), 4);
+    assert_eq!(compare(25, dots, records, &kept, &stamped), Err((12, Side::Frame)));
+}
+
+fn slow_levels(colour: u8) -> [i8; 3] {
+    let bits: [&[u32]; 3] = [&[6, 3, 0], &[7, 4, 1], &[5, 2]];
+    bits.map(|bits| raw_index(colour, bits) as i8)
+}
+
+/// Number by number, and for each number side by side.
+fn slow_refusal(height: u32, sides: [(Side, &Picture); 2]) -> Option<(u8, Side)> {
+    if !(1..=1024).contains(&height) {
+        return Some((5, Side::Neither));
+    }
+    let lines = height as usize;
+    for number in [6, 7, 12] {
+        for (side, Picture { dots, records }) in sides {
+            let at_fault = match number {
+                6 => dots.len() / 736 != lines || dots.len() % 736 != 0,
+                7 => records.len() / 7 != lines || records.len() % 7 != 0,
+                _ => (0..lines).any(|line| records[7 * line] == 255),
+            };
+            if at_fault {
+                return Some((number, side));
+            }
+        }
+    }
+    None
+}
+
+/// From the last dot to the first; the ranges are the ends of the sorted differences.
+fn slow_comparison(pair: &Pair) -> Compared {
+    let Pair { asked, capture, frame } = pair;
+    if let Some(refusal) = slow_refusal(*asked, [(Side::Capture, capture), (Side::Frame, frame)]) {
+        return Err(refusal);
+    }
+    let table: Vec<[i8; 3]> = (0..=255).map(slow_levels).collect();
+    let mut differences = [vec![], vec![], vec![]];
+    let (mut differing, mut first) = (0, None);
+    for at in (0..736 * *asked as usize).rev() {
+        let (captured, painted) = (capture.dots[at], frame.dots[at]);
+        if captured != painted {
+            differing += 1;
+            first = Some((at / 736, at % 736));
+        }
+        for (n, list) in differences.iter_mut().enumerate() {
+            list.push(table[usize::from(captured)][n] - table[usize::from(painted)][n]);
+        }
+    }
+    let ranges = differences.map(|mut list| {
+        list.sort_unstable();
+        Range { smallest: list[0], largest: list[list.len() - 1] }
+    });
+    Ok(Comparison { differing, first, ranges })
+}
+
+#[test]
+fn comparisons_agree_with_the_slow_model() {
+    for case in 0..COMPARISON_CASES {
+        let pair = Pair::draw(case);
+        assert_eq!(compare_pair(&pair), slow_comparison(&pair));
+    }
+}
+
+/// The other way round: the same number, count and first dot; each range is negated and its ends change places.
+#[test]
+fn exchanged_sides_negate_the_ranges() {
+    for case in 0..COMPARISON_CASES {
+        let Pair { asked, capture, frame } = Pair::draw(case);
+        let there = compare(asked, &capture.dots, &capture.records, &frame.dots, &frame.records);
+        let back = compare(asked, &frame.dots, &frame.records, &capture.dots, &capture.records);
+        match (there, back) {
+            (Ok(there), Ok(back)) => {
+                let negated = there.ranges.map(|Range { smallest, largest }| (-largest, -smallest));
+                assert_eq!(back, Comparison { ranges: ranges(negated), ..there });
+            }
+            (Err((5, side)), Err((5, other))) => assert_eq!((side, other), (Side::Neither, Side::Neither)),
+            (Err((number, side)), Err((other_number, other))) => {
+                assert_eq!(number, other_number);
+                assert!(side == Side::Capture || other == Side::Capture);
+            }
+            _ => panic!("one way is refused and the other is not"),
+        }
+    }
+}
+
+/// What the random cases must hold to be of use.
+#[test]
+fn comparison_cases_reach_every_answer() {
+    let mut refusals = vec![];
+    let mut accepted = vec![];
+    for case in 0..COMPARISON_CASES {
+        let pair = Pair::draw(case);
+        match compare_pair(&pair) {
+            Ok(comparison) => accepted.push((736 * pair.asked, comparison)),
+            Err(refusal) => refusals.push(refusal),
+        }
+    }
+    for fault in FAULTS {
+        assert!(refusals.iter().filter(|&&refusal| refusal == fault).count() >= 10);
+    }
+    let often = |holds: fn(u32, &Comparison) -> bool| {
+        accepted.iter().filter(|(dots, comparison)| holds(*dots, comparison)).count() >= 10
+    };
+    assert!(often(|_, comparison| comparison.differing == 0));
+    assert!(often(|_, comparison| (1..=64).contains(&comparison.differing)));
+    assert!(often(|dots, comparison| comparison.differing == dots));
+    assert!(often(|dots, comparison| comparison.differing > 64 && comparison.differing < dots));
+    assert!(often(|_, comparison| comparison.first.is_some_and(|(line, dot)| line > 0 && dot > 0)));
+    for n in [0, 1, 2] {
+        let ends = |end: fn(&Range) -> bool| accepted.iter().filter(|(_, comparison)| end(&comparison.ranges[n])).count();
+        assert!(ends(|range| range.smallest > 0) >= 10);
+        assert!(ends(|range| range.largest < 0) >= 10);
+        assert!(ends(|range| range.smallest < 0 && range.largest > 0) >= 10);
+    }
+}
+
+#[test]
+fn words_of_comparisons() {
+    let mut pair = plain_pair(312, 0, 0);
+    pair.capture.dots[736 * 60 + 200..736 * 60 + 204].fill(255);
+    pair.frame.dots[736 * 61] = 64;
+    let words = comparison_words(&compare_pair(&pair).unwrap(), &pair.capture.dots, &pair.frame.dots);
+    let wanted = "5 of 229632 dots differ
+first: line 60, dot 200
+capture: colour 255: red 7 of 7, green 7 of 7, blue 3 of 3
+frame: colour 0: red 0 of 7, green 0 of 7, blue 0 of 3
+capture minus frame: red -1 to 7, green 0 to 7, blue 0 to 3
+";
+    assert_eq!(words, wanted);
+    let words = comparison_words(&compare_pair(&plain_pair(312, 9, 9)).unwrap(), &[9; 229_632], &[9; 229_632]);
+    let wanted = "0 of 229632 dots differ
+first: none
+capture minus frame: red 0 to 0, green 0 to 0, blue 0 to 0
+";
+    assert_eq!(words, wanted);
+    assert_eq!(refusal_words((5, Side::Neither)), "refusal 5");
+    assert_eq!(refusal_words((6, Side::Capture)), "refusal 6 of the capture");
+    assert_eq!(refusal_words((12, Side::Frame)), "refusal 12 of the frame");
 }
 
 // ---------------------------------------------------------------------------

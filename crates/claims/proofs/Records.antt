@@ -1,5 +1,5 @@
--- The line records of paintings: a painted record never begins with 255, a refused painting's records are 255 throughout,
--- byte 2 counts at most 108 fetches, byte 4 is VC1, and bytes 5 and 6 number the block in force.
+-- The line records of paintings: a painted record never begins with 255, a refused painting's records are 255 throughout, so
+-- that refusal 12 tells them apart; byte 2 counts at most 108 fetches, byte 4 is VC1, and bytes 5 and 6 number the block in force.
 use mathlib.Core.Path.{_≡_, refl, sym, ap, _∙_}
 use mathlib.Core.Bool.{Bool, true, false, not, cond, _&&_}
 use mathlib.Core.List.{List, [], _∷_, _++_}
@@ -16,6 +16,7 @@ use Rattle.nick.specs.Slots.{Mode, VSYNC, PIXEL, ATTR, CH, UNUSED, LPIXEL, mode
 use Rattle.nick.specs.Scanline.{activeAt, pointersAfter, slotAddresses, slotsFetched, begunFetches, lineFetches, ended, nextScan}
 use Rattle.nick.specs.Sync.{syncs, lineSync, lineSyncCount}
 use Rattle.nick.specs.Record.{isUnused, flags, lineRecord, nextState, stateAfter}
+use Rattle.nick.specs.Refusals.{anyStamped}
 use Rattle.nick.specs.Painting.{frameRecords, painted, refusedPainting, paint}
 use Rattle.nick.specs.Examples.{lastBase, lastBlock}
 use Rattle.nick.specs.declared.Registers.{Registers}
@@ -24,6 +25,7 @@ use Rattle.nick.specs.declared.Block.{Block}
 use Rattle.nick.specs.declared.Scan.{Scan}
 use Rattle.nick.specs.declared.State.{State}
 use Rattle.nick.proofs.Bits.{pair}
+use Rattle.nick.proofs.Refusals.{stamped-at, none-stamped}
 use Rattle.laws.proofs.StatesAfter.{registers-kept}
 use Rattle.laws.proofs.Frames.{record-byte}
 use Rattle.laws.proofs.Paintings.{refusal-is, accepted-is, refused-is}
@@ -124,6 +126,21 @@ module _ (s : State) (ram : List ℕ) (h : ℕ) (dots records external : List �
   refused-records e i l =
       rw (refused-is s ram h dots records external (λ z. e (refusal-is s ram h dots records external ∙ z)))
       (getD-replicate (length records) i 255 0 l)
+
+  -- document 02, item 1: the records of a painted frame never meet refusal 12
+  pub painted-unstamped :
+      paint s ram h dots records external .refusal ≡ 0
+      → anyStamped h (paint s ram h dots records external .records) ≡ false
+  painted-unstamped e =
+      none-stamped h (paint s ram h dots records external .records) (λ y l z. absurd (omega (arith, accepted-records e y l, z)))
+
+  -- and those that a refused painting leaves always do, at every height that they have the length for
+  pub refused-stamped :
+      (paint s ram h dots records external .refusal ≡ 0 → ⊥)
+      → (n : ℕ) → 0 < n → length records ≡ recordBytes * n
+      → anyStamped n (paint s ram h dots records external .records) ≡ true
+  refused-stamped e n some size =
+      stamped-at n 0 (paint s ram h dots records external .records) some (refused-records e 0 (omega arith))
 
 -- "Byte 2: the number of bytes fetched from video RAM in this scanline, 16 for a load included, at most 108."
 pub fetched-is :

@@ -1,13 +1,12 @@
 -- The state's bytes hold the state: encoding then decoding gives it back.
 use mathlib.Core.Path.{_≡_, refl}
 use mathlib.Core.Bool.{Bool, true, false}
-use mathlib.Core.List.{List, [], _∷_, _++_}
-use Prim.Native.Nat.{ℕ, _+_, _*_, _≤_}
+use mathlib.Core.List.{List, [], _∷_}
+use Prim.Native.Nat.{ℕ, _+_, _*_}
 use native.Mathlib.Omega.{arith}
-use lib.ListN.{length, take, drop}
-use lib.Seq.{take-length}
+use lib.ListN.{length}
 use Rattle.lists.specs.Number.{number}
-use Rattle.lists.proofs.Laws.{front-all, tab-places}
+use Rattle.lists.proofs.Laws.{tab-places}
 use Rattle.nick.specs.Numbers.{isSet, low, high, byteAt}
 use Rattle.nick.proofs.Bits.{pair}
 use Rattle.nick.specs.Blocks.{decoded}
@@ -17,10 +16,6 @@ use Rattle.encoding.specs.Encoding.{flagsOf, encoded, scanOf, stateOf}
 -- a list of eight, place by place
 pub eight : (xs : List ℕ) → length xs ≡ 8 → byteAt xs 0 ∷ byteAt xs 1 ∷ byteAt xs 2 ∷ byteAt xs 3 ∷ byteAt xs 4 ∷ byteAt xs 5 ∷ byteAt xs 6 ∷ byteAt xs 7 ∷ [] ≡ xs
 eight xs h = rw h at (tab-places 0 xs)
-
--- a list copied over another of its length
-pub copied : (xs ys zs : List ℕ) → zs ≡ take (length xs) xs ++ drop (length xs) ys → length ys ≤ length xs → zs ≡ xs
-copied xs ys zs e h = rw (e, front-all (take (length xs) xs) ys (length xs) h) (take-length xs)
 
 -- each flag is in its bit
 pub flag-bits : (p v y : Bool) → (isSet 0 (number p + 2 * number v + 4 * number y) ≡ p) × (isSet 1 (number p + 2 * number v + 4 * number y) ≡ v) × (isSet 2 (number p + 2 * number v + 4 * number y) ≡ y)

@@ -1,10 +1,10 @@
 // RAM and register writes, from the files that a program's first two arguments name.
 ghost use mathlib.Core.Path.{_≡_};
 ghost use Prim.Native.Nat.{_%_, _≤_};
-ghost use mathlib.Core.Bool.{cond, not, _&&_};
+ghost use mathlib.Core.Bool.{not, _&&_};
 ghost use lib.Dec.{eqb};
 ghost use lib.ListN.{length};
-use crate::argument::read_argument;
+use crate::pair::read_pair;
 use crate::print::print_unreadable;
 use crate::print::print_usage;
 
@@ -18,16 +18,6 @@ pub struct Inputs {
     pub is_read: bool,
     pub ram: usize,
     pub writes: usize,
-}
-
-// The first argument that could not be read, 0 for none.
-fn first_unread(ram: bool, writes: bool) -> usize
-    ensures { λ r. ⌜ r ≡ cond ram (cond writes 0 2) 1 ⌝ }
-{
-    if ram {
-        return if writes { 0 } else { WRITES };
-    }
-    RAM
 }
 
 // Prints which file could not be read, or how the program is used where WRITES is not pairs of bytes; answers whether neither.
@@ -49,12 +39,10 @@ fn check_inputs(unread: usize, writes: usize, usage: &[u8]) -> bool
 pub fn read_inputs(ram: &mut [u8], writes: &mut [u8], usage: &[u8]) -> Inputs
     ensures { λ r. ⌜ (r .ram ≤ length (now (ram .entry))) × (r .writes ≤ length (now (writes .entry))) ⌝ }
 {
-    let first = read_argument(RAM, ram);
-    let second = read_argument(WRITES, writes);
-    let unread = first_unread(first.is_read, second.is_read);
+    let read = read_pair(RAM, WRITES, ram, writes);
     Inputs {
-        is_read: check_inputs(unread, second.length, usage),
-        ram: first.length,
-        writes: second.length,
+        is_read: check_inputs(read.unread, read.second, usage),
+        ram: read.first,
+        writes: read.second,
     }
 }

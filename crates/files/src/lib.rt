@@ -1,6 +1,8 @@
 // What the programs share: files and numbers named by the arguments, register writes from a file, and the lines printed.
 mod argument;
+mod colour;
 mod inputs;
+mod pair;
 mod print;
 mod same;
 mod writes;
@@ -10,11 +12,16 @@ pub use argument::number_argument;
 pub use argument::read_argument;
 pub use argument::write_argument;
 pub use argument::write_repeated;
+pub use colour::print_byte;
+pub use colour::print_colour;
 pub use inputs::Inputs;
 pub use inputs::RAM;
 pub use inputs::WRITES;
 pub use inputs::read_inputs;
+pub use pair::Pair;
+pub use pair::read_pair;
 pub use print::print_refusal;
+pub use print::print_refusal_of;
 pub use print::print_unreadable;
 pub use print::print_unwritten;
 pub use print::print_usage;

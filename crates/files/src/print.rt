@@ -20,18 +20,25 @@ fn print_words(refusal: u8) {
         ),
         9 => io::write_all(STDOUT_FILENO, b"line over 1,023 or dot over 735"),
         10 => io::write_all(STDOUT_FILENO, b"output shorter than the whole listing"),
+        12 => io::write_all(STDOUT_FILENO, b"a record begins with 255"),
         _ => io::write_all(STDOUT_FILENO, b"no call gives this number"),
     }
     ;
 }
 
-// Prints a refusal: its number and its words.
-pub fn print_refusal(refusal: u8) {
+// Prints a refusal: its number, the words for what it names, and its own.
+pub fn print_refusal_of(named: &[u8], refusal: u8) {
     io::write_all(STDOUT_FILENO, b"refused ");
     io::print_decimal(STDOUT_FILENO, refusal as u64);
     io::write_all(STDOUT_FILENO, b": ");
+    io::write_all(STDOUT_FILENO, named);
     print_words(refusal);
     io::write_all(STDOUT_FILENO, b"\n");
+}
+
+// Prints a refusal that names nothing.
+pub fn print_refusal(refusal: u8) {
+    print_refusal_of(b"", refusal);
 }
 
 // Prints how the program is used.

@@ -7,13 +7,17 @@ use native.Mathlib.Numerals.{add-one}
 use native.Mathlib.Decide.{decLt}
 use native.Mathlib.Omega.{arith}
 use lib.ListN.{length, getD, take, drop, set, replicate, length-append, length-take, length-drop, drop-of-length-le, replicate-append-replicate, List·getD-append}
-use lib.Seq.{take-at, drop-at, drop-drop, set-at, drop-cons, getD-at, ext-getD, sets, sets-eq}
+use lib.Seq.{take-length, take-at, drop-at, drop-drop, set-at, drop-cons, getD-at, ext-getD, sets, sets-eq}
 use Rattle.lists.specs.Tab.{tab}
 
 module _ {ℓ} {A : Type ℓ} where
   -- a front that reaches the end is the whole
   pub front-all : (p d : List A) (n : ℕ) → length d ≤ n → p ++ drop n d ≡ p
   front-all p d n h = rw (drop-of-length-le d h) (append-nil p)
+
+  -- a list copied over another of its length
+  pub copied : (xs ys zs : List A) → zs ≡ take (length xs) xs ++ drop (length xs) ys → length ys ≤ length xs → zs ≡ xs
+  copied xs ys zs e h = rw (e, front-all (take (length xs) xs) ys (length xs) h) (take-length xs)
 
   -- k places at the end of the front, lent and given back as ys, make the front longer
   pub lent : (p d ys : List A) (a k : ℕ) → length p ≡ a → take a (p ++ drop a d) ++ (ys ++ drop k (drop a (p ++ drop a d))) ≡ (p ++ ys) ++ drop (a + k) d

@@ -1,14 +1,19 @@
--- What the tests of the refusal table say where they do not refuse: one by one, of a direct answer and of a painting.
-use mathlib.Core.Path.{_≡_}
-use mathlib.Core.Bool.{false}
+-- What the tests of the refusal table say where they do not refuse: one by one, of a direct answer and of a painting; and
+-- when a record is stamped.
+use mathlib.Core.Path.{_≡_, refl}
+use mathlib.Core.Bool.{true, false, _||_, or-true}
 use mathlib.Core.List.{List}
-use Prim.Native.Nat.{ℕ, _*_, _≤_}
+use Prim.Native.Nat.{ℕ, zero, suc, _*_, _<_, _≤_}
+use native.Mathlib.Nat.{not-suc-le-zero}
+use native.Mathlib.Decide.{decLt}
+use native.Mathlib.Omega.{arith}
 use lib.Dec.{eqb, ltb}
 use lib.ListN.{length}
-use borrow.Author.Tests.{ltb-false, eqb-true, not-false}
+use borrow.Author.Tests.{ltb-false, eqb-true, not-false, eq-eqb, ne-eqb}
 use Rattle.lists.proofs.Tests.{or-first, or-rest, not-chosen, rest-zero}
 use Rattle.nick.specs.Sizes.{recordBytes}
-use Rattle.nick.specs.Refusals.{illFormed, Formed, notFull, badHeight, badDots, badRecords, badPlace, paintingRefusal, Accepted, directRefusal}
+use Rattle.nick.specs.Numbers.{byteAt}
+use Rattle.nick.specs.Refusals.{illFormed, Formed, notFull, badHeight, badDots, badRecords, anyStamped, badPlace, paintingRefusal, Accepted, directRefusal}
 use Rattle.nick.specs.declared.State.{State}
 use Rattle.nick.proofs.WellFormed.{formed}
 
@@ -60,3 +65,26 @@ accepted s ram h dots records external e =
       places = eqb-true (length dots) (736 * h) (not-false _ (not-chosen (badDots h dots) 5 _ past-height));
       bytes = eqb-true (length records) (recordBytes * h) (not-false _ (not-chosen (badRecords h records) 6 _ past-dots));
     }
+
+-- 12 of n records: given where one of them begins with 255, and not given where none does
+pub stamped-at :
+    (n y : ℕ) (records : List ℕ) → y < n → byteAt records (recordBytes * y) ≡ 255 → anyStamped n records ≡ true
+stamped-at zero y records h e = absurd (not-suc-le-zero h)
+stamped-at (suc n) y records h e = go (stamped-at n y records) (decLt y n)
+  where
+    go :
+        (y < n → byteAt records (recordBytes * y) ≡ 255 → anyStamped n records ≡ true)
+        → Dec (y < n)
+        → anyStamped n records || eqb (byteAt records (recordBytes * n)) 255 ≡ true
+    go ih (yes l) = rw (ih l e) refl
+    go ih (no l) =
+        let last : y ≡ n = omega arith in
+        rw (← last, eq-eqb (byteAt records (recordBytes * y)) 255 e) (or-true (anyStamped y records))
+
+pub none-stamped :
+    (n : ℕ) (records : List ℕ)
+    → ((y : ℕ) → y < n → byteAt records (recordBytes * y) ≡ 255 → ⊥)
+    → anyStamped n records ≡ false
+none-stamped zero records h = refl
+none-stamped (suc n) records h =
+    rw (none-stamped n records (λ y l. h y (omega arith)), ne-eqb (byteAt records (recordBytes * n)) 255 (h n (omega arith)))

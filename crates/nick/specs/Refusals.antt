@@ -1,13 +1,14 @@
 -- Document 01, "Buffers and refusal numbers": the tests of the table. A call tests its numbers in rising order, so that
 -- "the smallest number is given"; 0 stands for no refusal. Number 11 is given by nothing (document 02, item 9): claims
 -- specs/InsideRam has what it said, and why it cannot be met.
-use Prim.Native.Nat.{ℕ, _*_, _<_, _≤_}
+use Prim.Native.Nat.{ℕ, zero, suc, _*_, _<_, _≤_}
 use mathlib.Core.Path.{_≡_}
-use mathlib.Core.Bool.{Bool, not, cond, _||_}
+use mathlib.Core.Bool.{Bool, false, not, cond, _||_}
 use mathlib.Core.List.{List}
 use lib.Dec.{eqb, ltb}
 use lib.ListN.{length}
 use Rattle.nick.specs.Sizes.{recordBytes}
+use Rattle.nick.specs.Numbers.{byteAt}
 use Rattle.nick.specs.declared.Scan.{Scan}
 use Rattle.nick.specs.declared.State.{State}
 
@@ -43,6 +44,11 @@ badExternal h external = not (eqb (length external) 0 || eqb (length external) (
 -- 9: "direct answer: line over 1,023 or dot over 735"
 abbrev pub badPlace : ℕ → ℕ → Bool
 badPlace line dot = ltb 1023 line || ltb 735 dot
+
+-- 12 (document 02, item 1): "if any record .. begins with 255", of the first n records
+abbrev pub anyStamped : ℕ → List ℕ → Bool
+anyStamped zero records = false
+anyStamped (suc n) records = anyStamped n records || eqb (byteAt records (recordBytes * n)) 255
 
 -- "3, 4 .. for painting and the direct answer; 5 to 8 for painting"
 unfoldable pub paintingRefusal : State → List ℕ → ℕ → List ℕ → List ℕ → List ℕ → ℕ

@@ -22,8 +22,10 @@ use Rattle.painting.specs.PaintedFrame.{Paints}
 use Rattle.listing.specs.ListCall.{Lists}
 use Rattle.listing.proofs.Length.{listing-bound}
 use Rattle.encoding.specs.Encoding.{encoded, stateOf}
+use Rattle.comparison.specs.Comparison.{Answered, comparison}
 use Rattle.packing.specs.Packed.{packedAnswer, packedListed, lengthOf}
-use Rattle.nick_c.specs.Calls.{Freshens, Writes, paintBytes, PaintsBytes, ListsBytes, packedDot, kept}
+use Rattle.packing.specs.Compared.{packedCompared, comparedBytes}
+use Rattle.nick_c.specs.Calls.{Freshens, Writes, paintBytes, PaintsBytes, ListsBytes, ComparesBytes, packedDot, kept}
 
 -- a refused call leaves the bytes
 pub kept-refused : (n : ℕ) (s : State) (b : List ℕ) → (n ≡ 0 → ⊥) → kept n s b ≡ b
@@ -94,3 +96,20 @@ list-fits g ram out l low bytes e =
     go : (t : Bool) → length (listing g ram) ≤ 16 + 79 * 4096 + 9 → lengthOf (cond t (listLength (length (listing g ram))) (listRefused (listingRefusal ram (listing g ram) out))) < 2 ^ 32
     go true h = omega arith
     go false h = omega arith
+
+-- a comparison: an answer of another length is refused, and one of 14 bytes gets the rules' answer
+module _ (h : ℕ) (capture captureRecords frame frameRecords b : List ℕ) where
+  pub compare-refused : (length b ≡ 14 → ⊥) → ComparesBytes h capture captureRecords frame frameRecords b b 20
+  compare-refused long =
+      let other = ne-eqb (length b) 14 long in
+      record { answer = rw other; bytes = rw other }
+
+  pub compare-done :
+      {answer : Answered} (b₁ : List ℕ) (r : ℕ)
+      → length b ≡ 14
+      → answer ≡ comparison h capture captureRecords frame frameRecords
+      → (r ≡ packedCompared answer) × (b₁ ≡ comparedBytes answer b)
+      → ComparesBytes h capture captureRecords frame frameRecords b b₁ r
+  compare-done b₁ r long is put =
+      let whole = eq-eqb (length b) 14 long in
+      record { answer = rw (whole, ← is) (put .0); bytes = rw (whole, ← is) (put .1) }

@@ -11,7 +11,9 @@ use Rattle.nick.specs.Direct.{direct}
 use Rattle.nick.specs.Listing.{listAnswer, listOutput}
 use Rattle.nick.specs.declared.State.{State}
 use Rattle.encoding.specs.Encoding.{encoded, stateOf}
+use Rattle.comparison.specs.Comparison.{comparison}
 use Rattle.packing.specs.Packed.{packedAnswer, packedListed}
+use Rattle.packing.specs.Compared.{packedCompared, comparedBytes}
 
 -- a state has 32 bytes
 abbrev pub isState : List ℕ → Bool
@@ -76,3 +78,12 @@ packedDot b ram line dot external = answerFor b (packedAnswer (direct (stateOf b
 pub record ListsBytes (b ram out₀ out₁ : List ℕ) (r : ℕ) : Type 0 where
   pub answer : r ≡ answerFor b (packedListed (listAnswer (stateOf b .registers) ram out₀))
   pub output : out₁ ≡ cond (isState b) (listOutput (stateOf b .registers) ram out₀) out₀
+
+-- the answer of a comparison has 14 bytes
+abbrev pub isAnswer : List ℕ → Bool
+isAnswer b = eqb (length b) 14
+
+-- the comparison of a capture with a frame; an answer of another length is refusal 20, before all else
+pub record ComparesBytes (h : ℕ) (capture captureRecords frame frameRecords b₀ b₁ : List ℕ) (r : ℕ) : Type 0 where
+  pub answer : r ≡ cond (isAnswer b₀) (packedCompared (comparison h capture captureRecords frame frameRecords)) 20
+  pub bytes : b₁ ≡ cond (isAnswer b₀) (comparedBytes (comparison h capture captureRecords frame frameRecords) b₀) b₀

@@ -1,19 +1,28 @@
 // The library for C, Rust and Python: the chip's state is 32 bytes, and every call is an exported function that answers a
-// number. include/nick.h declares them. A state of another length than 32 is refusal 20, before all else.
+// number. include/nick.h declares them. A state of another length than 32, or an answer of a comparison of another length than
+// 14, is refusal 20, before all else.
 ghost use mathlib.Core.Path.{_≡_};
 ghost use lib.ListN.{length};
 ghost use Rattle.nick.specs.Levels.{levelsOf};
-ghost use Rattle.nick_c.specs.Calls.{Freshens, Writes, PaintsBytes, ListsBytes, packedDot, kept};
+ghost use Rattle.nick_c.specs.Calls.{Freshens, Writes, PaintsBytes, ListsBytes, ComparesBytes, packedDot, kept};
+ghost use Rattle.comparison.specs.Answers.{answered};
 ghost use Rattle.packing.specs.Packed.{packedLevels};
+ghost use Rattle.packing.specs.Compared.{packedCompared, comparedBytes};
+use comparison::Compared;
 use encoding::decode_state;
 use encoding::encode_state;
 use nick::State;
+use packing::found_bytes;
 use packing::packed_answer;
 use packing::packed_levels;
 use packing::packed_listed;
+use packing::packed_refusal;
 
 // How many bytes a state has.
 const STATE_BYTES: usize = 32;
+
+// How many bytes the answer of a comparison has.
+const COMPARISON_BYTES: usize = 14;
 
 // Stores the state after a call, unless it was refused, and answers the refusal.
 fn keep(refusal: u8, next: State, state: &mut [u8]) -> u32
@@ -116,4 +125,38 @@ pub extern "C" fn nick_levels(colour: u8) -> u32
     ensures { λ r. ⌜ r ≡ packedLevels (levelsOf colour) ⌝ }
 {
     packed_levels(nick::levels_of(colour))
+}
+
+// Stores what is found, unless the comparison was refused, and answers the refusal and its side.
+fn put_compared(compared: Compared, answer: &mut [u8]) -> u32
+    requires { ⌜ length (now answer) ≡ 14 ⌝ }
+    ensures { λ r. ⌜ (r ≡ packedCompared (answered compared)) × (now (answer .exit) ≡ comparedBytes (answered compared) (now (answer .entry))) ⌝ }
+{
+    match compared {
+        Compared::Refused(refusal) => packed_refusal(refusal),
+        Compared::Found(found) => {
+            let bytes = found_bytes(found);
+            bytes::copy(&bytes, answer);
+            0
+        }
+    }
+}
+
+// Compares a capture with a frame of the same height.
+#[no_mangle]
+pub extern "C" fn nick_compare(
+    height: usize,
+    capture: &[u8],
+    capture_records: &[u8],
+    frame: &[u8],
+    frame_records: &[u8],
+    answer: &mut [u8],
+) -> u32
+    ensures { λ r. ⌜ ComparesBytes height (now (capture .entry)) (now («capture_records» .entry)) (now (frame .entry)) (now («frame_records» .entry)) (now (answer .entry)) (now (answer .exit)) r ⌝ }
+{
+    if answer.len() != COMPARISON_BYTES {
+        return 20;
+    }
+    let compared = comparison::compare(height, capture, capture_records, frame, frame_records);
+    put_compared(compared, answer)
 }

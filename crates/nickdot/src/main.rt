@@ -20,29 +20,6 @@ const EXTERNAL: usize = 5;
 const USAGE: [u8; 109] =
     *b"usage: nickdot RAM WRITES LINE DOT [EXTERNAL-BYTE]; WRITES is pairs of bytes, port and value, at most 32,768\n";
 
-// Prints a byte as a number.
-fn print_byte(byte: u8) {
-    io::print_decimal(STDOUT_FILENO, byte as u64);
-}
-
-// Prints a level: the words before it, the level, and the highest level.
-fn print_level(words: &[u8], level: u8, highest: &[u8]) {
-    io::write_all(STDOUT_FILENO, words);
-    print_byte(level);
-    io::write_all(STDOUT_FILENO, b" of ");
-    io::write_all(STDOUT_FILENO, highest);
-}
-
-// Prints a colour and its levels.
-fn print_colour(colour: u8) {
-    let levels = nick::levels_of(colour);
-    io::write_all(STDOUT_FILENO, b"colour ");
-    print_byte(colour);
-    print_level(b": red ", levels.red, b"7");
-    print_level(b", green ", levels.green, b"7");
-    print_level(b", blue ", levels.blue, b"3\n");
-}
-
 // The byte at an address.
 fn byte_at(ram: &[u8], address: u16) -> u8
     requires { ⌜ length (now ram) ≡ 65536 ⌝ }
@@ -59,7 +36,7 @@ fn print_source(ram: &[u8], address: u16)
     io::write_all(STDOUT_FILENO, b"from address ");
     io::print_decimal(STDOUT_FILENO, address as u64);
     io::write_all(STDOUT_FILENO, b": ");
-    print_byte(byte_at(ram, address));
+    files::print_byte(byte_at(ram, address));
     io::write_all(STDOUT_FILENO, b"\n");
 }
 
@@ -98,7 +75,7 @@ fn print_answer(ram: &[u8], writes: &[u8], line: usize, dot: usize, external: u8
     match answer(ram, writes, line, dot, external) {
         Answer::Refused(refusal) => files::print_refusal(refusal),
         Answer::Colour(colour, sources) => {
-            print_colour(colour);
+            files::print_colour(colour);
             print_sources(ram, sources);
         }
     }

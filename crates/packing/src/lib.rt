@@ -1,9 +1,14 @@
-// Answers as numbers, for the exported calls: the direct answer and the listing's in 64 bits, levels in 32.
+// Answers as numbers, for the exported calls: the direct answer and the listing's in 64 bits, levels in 32, and a comparison's.
+mod compared;
+
 ghost use mathlib.Core.Path.{_≡_};
 ghost use Prim.Native.Nat.{_<_, _^_};
 ghost use Rattle.nick.specs.Direct.{addressesOf, answered};
 ghost use Rattle.nick.specs.Listing.{listAnswered};
 ghost use Rattle.packing.specs.Packed.{packedAddresses, packedAnswer, packedListed, packedLevels, lengthOf};
+pub use compared::found_bytes;
+pub use compared::packed_refusal;
+pub use compared::side_number;
 use nick::Answer;
 use nick::Levels;
 use nick::Listed;

@@ -6,27 +6,10 @@ ghost use Prim.Native.Nat.{_*_};
 ghost use lib.ListN.{length};
 ghost use Rattle.nick.specs.Sizes.{recordBytes};
 ghost use Rattle.random_cases.specs.Lengths.{Lent};
+use crate::repeated::draw_repeated;
 use call::Call;
 use call::call_of;
-use cases::Source;
-use lists::smaller;
 use nick::Painted;
-
-// Repeats external input from byte 5,888 on.
-fn repeat(external: &mut [u8]) {
-    let mut j = 5888;
-    while j < external.len() {
-        external[j] = external[j - 5888];
-        j += 1;
-    }
-}
-
-// Draws external input: up to 5,888 bytes, and these again after them.
-fn draw_external(source: Source, external: &mut [u8]) {
-    let n = smaller(external.len(), 5888);
-    cases::draw(source, &mut external[0..n]);
-    repeat(external);
-}
 
 // Paints as the call asks.
 fn paint(call: Call, ram: &[u8], dots: &mut [u8], records: &mut [u8], external: &[u8]) -> Painted {
@@ -72,7 +55,7 @@ fn draw_call(case: u32, ram: &mut [u8], external: &mut [u8]) -> Call
     let drawn = cases::begin_with_ram(1, case, ram);
     let call = call_of(drawn.head);
     let end = call.external;
-    draw_external(drawn.source, &mut external[0..end]);
+    draw_repeated(drawn.source, &mut external[0..end]);
     call
 }
 

@@ -1,7 +1,10 @@
 // Runs the proved code on the random cases of second/README.md, family by family, and prints the lines of each.
+mod comparisons;
 mod dots;
 mod frames;
+mod lengths;
 mod listings;
+mod repeated;
 mod writes;
 
 ghost use Prim.Native.Nat.{_<_, _≤_};
@@ -14,6 +17,7 @@ enum Family {
     Frames,
     Dots,
     Listings,
+    Comparisons,
 }
 
 // How many cases a family has.
@@ -25,6 +29,7 @@ fn cases_of(family: Family) -> u32
         Family::Frames => 2000,
         Family::Dots => 1000,
         Family::Listings => 400,
+        Family::Comparisons => 1000,
     }
 }
 
@@ -37,6 +42,7 @@ fn line_of(family: Family) -> u32
         Family::Frames => 50,
         Family::Dots => 25,
         Family::Listings => 10,
+        Family::Comparisons => 25,
     }
 }
 
@@ -47,10 +53,11 @@ fn print_line(family: Family, from: u32, to: u32, digest: u64) {
         Family::Frames => cases::print_line(b"frames", from, to, digest),
         Family::Dots => cases::print_line(b"dots", from, to, digest),
         Family::Listings => cases::print_line(b"listings", from, to, digest),
+        Family::Comparisons => cases::print_line(b"comparisons", from, to, digest),
     }
 }
 
-// The digest after one case, run by the module of its family.
+// The digest after one case, run by the module of its family. A comparison has its frame in the buffers of external input and output.
 fn run_case(
     family: Family,
     case: u32,
@@ -69,6 +76,10 @@ fn run_case(
         Family::Frames => frames::run_case(case, digest, ram, dots, records, external, tally),
         Family::Dots => dots::run_case(case, digest, ram, tally),
         Family::Listings => listings::run_case(case, digest, ram, out, tally),
+        Family::Comparisons => {
+            let frame_records = &mut out[0..1026 * RECORD_BYTES];
+            comparisons::run_case(case, digest, dots, records, external, frame_records, tally)
+        }
     }
 }
 
@@ -173,6 +184,7 @@ fn run(
     run_family(Family::Frames, ram, dots, records, external, out);
     run_family(Family::Dots, ram, dots, records, external, out);
     run_family(Family::Listings, ram, dots, records, external, out);
+    run_family(Family::Comparisons, ram, dots, records, external, out);
 }
 
 fn main() {

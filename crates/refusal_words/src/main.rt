@@ -1,4 +1,4 @@
-// Prints every refusal as the programs print it, in the order of document 01's table; 11 is given by no call.
+// Prints every refusal as the programs print it, in the order of their numbers; 11 is given by no call.
 fn main() {
     files::print_refusal(1);
     files::print_refusal(2);
@@ -11,4 +11,5 @@ fn main() {
     files::print_refusal(9);
     files::print_refusal(10);
     files::print_refusal(11);
+    files::print_refusal(12);
 }

@@ -3,7 +3,10 @@ ghost use mathlib.Core.Path.{_≡_};
 ghost use mathlib.Core.Bool.{not, _||_};
 ghost use Prim.Native.Nat.{_*_, _≤_};
 ghost use lib.Dec.{eqb};
-ghost use Rattle.nick.specs.Refusals.{illFormed, notFull, badHeight};
+ghost use lib.ListN.{length};
+ghost use Rattle.nick.specs.Sizes.{recordBytes};
+ghost use Rattle.nick.specs.Refusals.{illFormed, notFull, badHeight, anyStamped};
+use nick::RECORD_BYTES;
 use nick::Scan;
 
 // 3: more than 256 scanlines left, or a block number over 4,095.
@@ -41,4 +44,19 @@ pub fn is_bad_external(bytes: usize, height: usize) -> bool
     ensures { λ r. ⌜ r ≡ not (eqb bytes 0 || eqb bytes (736 * height)) ⌝ }
 {
     bytes != 0 && is_bad_length(bytes, 736, height)
+}
+
+// 12: a record begins with 255, as those of a refused painting do.
+pub fn is_stamped(records: &[u8], height: usize) -> bool
+    requires { ⌜ (height ≤ 1024) × (length (now records) ≡ recordBytes * height) ⌝ }
+    ensures { λ r. ⌜ r ≡ anyStamped height (now (records .entry)) ⌝ }
+{
+    let mut y = 0;
+    while y < height {
+        if records[RECORD_BYTES * y] == 255 {
+            return true;
+        }
+        y += 1;
+    }
+    false
 }

@@ -1,6 +1,6 @@
 -- `encoding::encode_state` copies all 32 bytes.
 use mathlib.Core.Path.{_∙_}
-use Rattle.encoding.proofs.StateBytes.{copied}
+use Rattle.lists.proofs.Laws.{copied}
 use borrow.Author.Needs.{needs}
 use Rattle.encoding.proofs.encode_state.Statement.{statement}
 use Rattle.encoding.proofs.encode_state.Tie as tie

@@ -1,28 +1,28 @@
--- `random_cases::frames::repeat` is safe and ends: external input keeps its length, and the bytes left fall.
+-- `random_cases::repeated::repeat` is safe and ends: the bytes keep their length, and the bytes left fall.
 use Prim.Native.Nat.{_-_, _≤_}
 use mathlib.Core.Path.{_≡_}
 use lib.ListN.{length}
 use borrow.Author.Needs.{needs}
-use Rattle.random_cases.proofs.frames.repeat.Statement.{statement}
-use Rattle.random_cases.proofs.frames.repeat.Tie as tie
+use Rattle.random_cases.proofs.repeated.repeat.Statement.{statement}
+use Rattle.random_cases.proofs.repeated.repeat.Tie as tie
 
 abbrev Inv-loop : tie.InvT-loop
-Inv-loop external₀ j₀ external j = (5888 ≤ j) × (length external ≡ length external₀)
+Inv-loop bytes₀ j₀ bytes j = (5888 ≤ j) × (length bytes ≡ length bytes₀)
 
 abbrev μ-loop : tie.MeasureT-loop
-μ-loop external₀ j₀ external j = length external₀ - j
+μ-loop bytes₀ j₀ bytes j = length bytes₀ - j
 
 loop-holds : tie.Need-loop-holds Inv-loop μ-loop
 loop-holds c = search needs
 
-sub-external : tie.Need-sub-external Inv-loop μ-loop
-sub-external c = search needs
+sub-bytes : tie.Need-sub-bytes Inv-loop μ-loop
+sub-bytes c = search needs
 
-slice-read-external : tie.Need-slice-read-external Inv-loop μ-loop
-slice-read-external c = search needs
+slice-read-bytes : tie.Need-slice-read-bytes Inv-loop μ-loop
+slice-read-bytes c = search needs
 
-slice-write-external : tie.Need-slice-write-external Inv-loop μ-loop
-slice-write-external c = search needs
+slice-write-bytes : tie.Need-slice-write-bytes Inv-loop μ-loop
+slice-write-bytes c = search needs
 
 add-j : tie.Need-add-j Inv-loop μ-loop
 add-j c = search needs
@@ -46,9 +46,9 @@ repeat-spec =
     Inv-loop
     μ-loop
     loop-holds
-    sub-external
-    slice-read-external
-    slice-write-external
+    sub-bytes
+    slice-read-bytes
+    slice-write-bytes
     add-j
     loop-less
     loop-again

@@ -1,0 +1,11 @@
+pub mod Pairs
+pub mod Signed
+pub mod RangeLoop
+pub mod RefusalTable
+pub mod FirstDot
+pub mod Extremes
+pub mod Colours
+pub mod Sides
+pub mod Agreement
+pub mod Examples
+pub mod Determined

@@ -1,0 +1,2 @@
+pub mod FirstDot
+pub mod Magnitude

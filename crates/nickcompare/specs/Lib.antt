@@ -1,0 +1,2 @@
+pub mod ComparedFiles
+pub mod FirstDot

@@ -1,0 +1,2 @@
+pub mod SignedBytes
+pub mod FoundBytes
