@@ -1,5 +1,5 @@
--- The line records of paintings: a painted record never begins with 255, a refused painting's records are 255 throughout, so
--- that refusal 12 tells them apart; byte 2 counts at most 108 fetches, byte 4 is VC1, and bytes 5 and 6 number the block in force.
+-- The line records of paintings: a painted record never begins with 255, and a refused painting's records are 255 throughout, so that
+-- refusal 12 tells them apart; byte 2 counts at most 108 fetches, byte 4 is VC1, and bytes 5 and 6 number the block in force.
 use mathlib.Core.Path.{_≡_, refl, sym, ap, _∙_}
 use mathlib.Core.Bool.{Bool, true, false, not, cond, _&&_}
 use mathlib.Core.List.{List, [], _∷_, _++_}

@@ -1,4 +1,4 @@
--- The statements of specs/Agreement, proved; and two comparisons computed.
+-- The statements of specs/Agreement, proved.
 use mathlib.Core.Path.{_≡_, refl, sym, ap, _∙_}
 use mathlib.Core.Logic.{_⊎_, inl, inr}
 use mathlib.Core.List.{List, zip}
@@ -32,6 +32,11 @@ difference-place channel xs ys i h e =
 
 differences-length : (channel : Channel) (xs ys : List ℕ) → length ys ≡ length xs → length (differences channel (zip xs ys)) ≡ length xs
 differences-length channel xs ys e = length-map (zip xs ys) (difference channel) ∙ zip-length xs ys e
+
+-- a number between 0 and 0
+between-zero : (z : ℤ) → pos 0 ≤ℤ z → z ≤ℤ pos 0 → z ≡ pos 0
+between-zero (pos n) low high = ap pos (omega (arith, leb→le n 0 (high .le)))
+between-zero (negsuc n) low high = absurd (low .le)
 
 -- what is found of dots side by side
 module _ (xs ys : List ℕ) (same : length ys ≡ length xs) (some : 0 < length xs) where
@@ -100,10 +105,6 @@ module _
         (sym (r .smallest) ∙ nothing (r .lowest), sym (r .largest) ∙ nothing (r .highest))
 
   -- where all six numbers are 0, every level is equal, and so every dot
-  between-zero : (z : ℤ) → pos 0 ≤ℤ z → z ≤ℤ pos 0 → z ≡ pos 0
-  between-zero (pos n) low high = ap pos (omega (arith, leb→le n 0 (high .le)))
-  between-zero (negsuc n) low high = absurd (low .le)
-
   levels-equal : Bytes capture → Bytes frame → AllZero f → capture ≡ frame
   levels-equal bytes bytes′ zeros =
       ext-getD 0 capture frame (sym same-length) (λ i l.

@@ -1,6 +1,6 @@
 // What the programs share: files and numbers named by the arguments, register writes from a file, and the lines printed.
 mod argument;
-mod colour;
+mod colour_words;
 mod inputs;
 mod pair;
 mod print;
@@ -12,8 +12,8 @@ pub use argument::number_argument;
 pub use argument::read_argument;
 pub use argument::write_argument;
 pub use argument::write_repeated;
-pub use colour::print_byte;
-pub use colour::print_colour;
+pub use colour_words::print_byte;
+pub use colour_words::print_colour;
 pub use inputs::Inputs;
 pub use inputs::RAM;
 pub use inputs::WRITES;
