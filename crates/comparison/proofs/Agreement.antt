@@ -15,7 +15,7 @@ use Rattle.comparison.specs.Agreement.{Bytes, rangeIn, AllZero, NoneDiff
 use Rattle.comparison.specs.declared.Channel.{Channel}
 use Rattle.comparison.specs.declared.Channel.the-variants.{Red, Green, Blue}
 use Rattle.comparison.proofs.RefusalTable.{found-is, comparable, clear, not-refused, accepted-is}
-use Rattle.comparison.proofs.FirstDot.{zip-length, zip-place, first-is}
+use Rattle.comparison.proofs.FirstDot.{zip-length, zip-place, first-is, first-inside}
 use Rattle.comparison.proofs.Extremes.{range-extremes, range-turned}
 use Rattle.comparison.proofs.Colours.{levels-determine}
 use Rattle.comparison.proofs.Sides.{same-count, same-first, count-agrees, first-agrees, no-difference, levels-same, count-turned, first-turned, differences-turned}
@@ -144,11 +144,9 @@ same-nowhere h dots records others f answer = (
 
 pub first-differs : FirstDiffers
 first-differs h capture captureRecords frame frameRecords f line dot answer e =
-    let same = same-length h capture captureRecords frame frameRecords f answer in
+    let (inside, same) = first-inside h capture captureRecords frame frameRecords f line dot answer e in
     let p = first-is 0 (zip capture frame) line dot (sym (first-found h capture captureRecords frame frameRecords f answer) ∙ e) in
-    let size = zip-length capture frame same in
     let there : p .offset ≡ 736 * line + dot = omega (arith, p .there) in
-    let inside : 736 * line + dot < length capture = omega (arith, p .inside) in
     record {
       inLine = p .inLine;
       inside = inside;

@@ -15,19 +15,26 @@ use Rattle.comparison.specs.Comparison.{levelOf, difference}
 use Rattle.comparison.specs.declared.Channel.{Channel}
 use Rattle.comparison.specs.declared.Channel.the-variants.{Red, Green, Blue}
 
--- a test of two differences, as the machine reads them
-pub read-test :
-    (a b : ℤ) (t : Bool) → SFits w32 a → SFits w32 b → ltZ (toZ w32 (ofZ w32 a)) (toZ w32 (ofZ w32 b)) ≡ t → ltZ a b ≡ t
-read-test a b t fa fb h = rw (toZ-ofZ w32 a fa, toZ-ofZ w32 b fb) at h
+-- one of two differences, chosen by a test of two: as the machine reads them
+pub read-choice :
+    (x y a b : ℤ) (t : Bool)
+    → SFits w32 x
+    → SFits w32 y
+    → SFits w32 (cond t b a)
+    → ltZ (toZ w32 (ofZ w32 x)) (toZ w32 (ofZ w32 y)) ≡ t
+    → toZ w32 (ofZ w32 (cond t b a)) ≡ cond (ltZ x y) b a
+read-choice x y a b t fx fy f h =
+    let test : ltZ x y ≡ t = rw (toZ-ofZ w32 x fx, toZ-ofZ w32 y fy) at h in
+    rw test (toZ-ofZ w32 (cond t b a) f)
 
 -- a level is at most 7, so a difference is -7 to 7
-pub level-most : (channel : Channel) (colour : ℕ) → levelOf channel (levelsOf colour) ≤ 7
+level-most : (channel : Channel) (colour : ℕ) → levelOf channel (levelsOf colour) ≤ 7
 unfolding levelsOf
 level-most Red c = omega (arith, bit-below 0 c, bit-below 3 c, bit-below 6 c)
 level-most Green c = omega (arith, bit-below 1 c, bit-below 4 c, bit-below 7 c)
 level-most Blue c = omega (arith, bit-below 2 c, bit-below 5 c)
 
-pub minus-most : (a b : ℕ) → a ≤ 7 → b ≤ 7 → mag (pos a -ℤ pos b) ≤ 7
+minus-most : (a b : ℕ) → a ≤ 7 → b ≤ 7 → mag (pos a -ℤ pos b) ≤ 7
 minus-most a zero ha hb = omega arith
 minus-most a (suc n) ha hb = go (ltb a (suc n)) refl
   where
@@ -35,7 +42,7 @@ minus-most a (suc n) ha hb = go (ltb a (suc n)) refl
     go true e = omega arith
     go false e = omega arith
 
-pub difference-most : (channel : Channel) (dot : ℕ × ℕ) → mag (difference channel dot) ≤ 7
+difference-most : (channel : Channel) (dot : ℕ × ℕ) → mag (difference channel dot) ≤ 7
 unfolding difference
 difference-most channel (capture, frame) =
     minus-most (levelOf channel (levelsOf capture)) (levelOf channel (levelsOf frame)) (level-most channel capture) (level-most channel frame)

@@ -1,26 +1,20 @@
 -- `comparison::ranges::greater`: what the machine reads back from the bits of a difference is that difference.
 use mathlib.Core.Bool.{true, false}
-use mir.Syntax.{w32}
-use mir.ValLaws.{toZ-ofZ}
-use Rattle.comparison.proofs.Signed.{read-test}
+use Rattle.comparison.proofs.Signed.{read-choice}
 use Rattle.comparison.proofs.ranges.greater.Statement.{statement}
 use Rattle.comparison.proofs.ranges.greater.Tie as tie
 
 returns : tie.Need-returns
 returns c =
-    let a = c .before .args .a in
-    let b = c .before .args .b in
-    let fa = c .before .fits .a in
-    let fb = c .before .fits .b in
-    rw (read-test a b true fa fb (c .if1 .taken)) (toZ-ofZ w32 b fb)
+    let v = c .before .args in
+    let f = c .before .fits in
+    read-choice (v .a) (v .b) (v .a) (v .b) true (f .a) (f .b) (f .b) (c .if1 .taken)
 
 returns-2 : tie.Need-returns-2
 returns-2 c =
-    let a = c .before .args .a in
-    let b = c .before .args .b in
-    let fa = c .before .fits .a in
-    let fb = c .before .fits .b in
-    rw (read-test a b false fa fb (c .if1 .left)) (toZ-ofZ w32 a fa)
+    let v = c .before .args in
+    let f = c .before .fits in
+    read-choice (v .a) (v .b) (v .a) (v .b) false (f .a) (f .b) (f .a) (c .if1 .left)
 
 pub greater-spec : {M : Type 1} → statement M
 greater-spec = tie.close (tie.spec returns returns-2)
