@@ -1,4 +1,6 @@
 // Line parameter blocks: decoding the sixteen bytes, how a scanline begins, and the active slots between the margins.
+#![tactic(auto)]
+
 mod margins;
 mod mode;
 

@@ -7,7 +7,7 @@ use lists::word;
 use nick::{Pointers, Registers, Scan, State};
 
 // The head: F, G and K, the state, the drawn height, and T0 to T9.
-#[derive(Drop)]
+#[derive(Clone, Copy)]
 pub struct Head {
     pub f: u8,
     pub g: u8,
@@ -18,7 +18,7 @@ pub struct Head {
 }
 
 // A case whose head is drawn.
-#[derive(Drop)]
+#[derive(Clone, Copy)]
 pub struct Case {
     pub source: Source,
     pub head: Head,

@@ -1,5 +1,7 @@
 // The random cases of second/README.md, for the programs that run the proved code on them: the generator, the head of a case,
 // video RAM, the digest, and the lines that are printed.
+#![tactic(auto)]
+
 mod digest;
 mod faults;
 mod head;

@@ -5,7 +5,7 @@ use libc::STDOUT_FILENO;
 pub fn count(tally: &mut [u64], refusal: u8) {
     let i = refusal as usize;
     if i < tally.len() {
-        tally[i] = std::num::wrapping_add_u64(tally[i], 1);
+        tally[i] = tally[i].wrapping_add(1);
     }
 }
 

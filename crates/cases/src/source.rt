@@ -1,7 +1,7 @@
 // The seeded generator: xorshift on 64 bits.
 
 // Where the generator stands.
-#[derive(Drop)]
+#[derive(Clone, Copy)]
 pub struct Source {
     pub x: u64,
 }

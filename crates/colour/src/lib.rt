@@ -1,4 +1,6 @@
 // From display byte to colour: pixels, alternate colours, the palette, external colour.
+#![tactic(auto)]
+
 ghost use Rattle.std.specs.Prelude.{◌≡◌, ◌<◌, length};
 ghost use Rattle.nick.specs.Numbers.{bit};
 ghost use Rattle.nick.specs.Colour.{four_index, sixteen_index, palette_colour};
@@ -18,7 +20,7 @@ use nick::{Block, Pixel, Registers};
 
 // One display byte ready to be shown: the colour mode's number, the byte, and in two colours the palette numbers of a clear
 // and of a set bit.
-#[derive(Drop)]
+#[derive(Clone, Copy)]
 pub struct Cell {
     pub colours: u8,
     pub byte: u8,

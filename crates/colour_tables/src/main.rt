@@ -1,5 +1,7 @@
 // Prints a digest of every display byte in every mode, of the palette, of external colour and of the colour levels.
 // The lines must be those of the second program.
+#![tactic(auto)]
+
 ghost use Rattle.std.specs.Prelude.{◌<◌};
 ghost use Rattle.colour.specs.Cell.{palette_number};
 

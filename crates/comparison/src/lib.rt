@@ -1,5 +1,7 @@
 // A capture compared with a frame, dot by dot: how many dots differ, the first of them, and how far the levels are off.
 // specs/Comparison.antt has the rules.
+#![tactic(auto)]
+
 mod dots;
 mod ranges;
 mod table;
@@ -14,7 +16,7 @@ use ranges::range_of;
 use table::refusal_of;
 
 // The side that a refusal names.
-#[derive(Drop)]
+#[derive(Clone, Copy)]
 pub enum Side {
     Neither,
     Capture,
@@ -22,21 +24,21 @@ pub enum Side {
 }
 
 // A refusal: its number, 0 for none, and the side that it names.
-#[derive(Drop)]
+#[derive(Clone, Copy)]
 pub struct Refusal {
     pub number: u8,
     pub side: Side,
 }
 
 // The first dot that differs: its line, and its place in the line.
-#[derive(Drop)]
+#[derive(Clone, Copy)]
 pub enum First {
     Nowhere,
     At(u16, u16),
 }
 
 // A colour's three levels.
-#[derive(Drop)]
+#[derive(Clone, Copy)]
 pub enum Channel {
     Red,
     Green,
@@ -44,14 +46,14 @@ pub enum Channel {
 }
 
 // The smallest and the largest difference of levels, capture minus frame.
-#[derive(Drop)]
+#[derive(Clone, Copy)]
 pub struct Range {
     pub smallest: i32,
     pub largest: i32,
 }
 
 // What is found: how many dots differ, the first of them, and the differences of levels.
-#[derive(Drop)]
+#[derive(Clone, Copy)]
 pub struct Differences {
     pub count: u32,
     pub first: First,
@@ -61,7 +63,7 @@ pub struct Differences {
 }
 
 // What the comparison answers: a refusal, or what is found.
-#[derive(Drop)]
+#[derive(Clone, Copy)]
 pub enum Compared {
     Refused(Refusal),
     Found(Differences),

@@ -1,4 +1,6 @@
 // The direct answer: one dot's colour and the addresses that it comes from, without painting.
+#![tactic(auto)]
+
 ghost use Rattle.std.specs.Prelude.{◌≡◌, ◌/◌, ◌%◌, ◌<◌, cond, length, map, eqb};
 ghost use Rattle.nick.specs.Blocks.{begun};
 ghost use Rattle.nick.specs.Scanline.{scan_after};

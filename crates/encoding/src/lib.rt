@@ -1,4 +1,6 @@
 // The state as 32 bytes: specs/Encoding.antt has the places.
+#![tactic(auto)]
+
 ghost use Rattle.std.specs.Prelude.{◌≡◌, length};
 ghost use Rattle.encoding.specs.Encoding.{encoded, flags_of, scan_of, state_of};
 
@@ -101,5 +103,5 @@ pub fn encode_state(state: State, out: &mut [u8])
     ensures { out.new ≡ encoded state }
 {
     let bytes = state_bytes(state);
-    bytes::copy(&bytes, out);
+    out.copy_from_slice(&bytes);
 }

@@ -1,8 +1,10 @@
 // What a slot fetches: the cells that it shows, the pointers after it, how many bytes; and what each of its dots comes from.
+#![tactic(auto)]
+
 mod font;
 
 ghost use Rattle.std.specs.Prelude.{◌≡◌, ◌<◌, ◌≤◌, [], length, if◌then◌else◌};
-ghost use Rattle.nick.specs.Slots.{PIXEL, ATTR, CH, LPIXEL, mode_of, dot_addresses};
+ghost use Rattle.nick.specs.Slots.{PIXEL as pixel_mode, ATTR as attribute_mode, CH, LPIXEL, mode_of, dot_addresses};
 ghost use Rattle.nick.specs.Direct.{addresses_of};
 ghost use Rattle.nick.specs.Scanline.{active_at};
 ghost use Rattle.nick.specs.Sync.{syncs};
@@ -11,11 +13,10 @@ ghost use Rattle.fetch.specs.Fetches.{one_cell, no_fetch, fetched_in, fetched_at
 use blocks::{ATTR, CH64, CH256, PIXEL, UNUSED, VSYNC, code_width, video_mode};
 use colour::Cell;
 use nick::{Block, Pixel, Pointers, Registers, Sources};
-use std::num::wrapping_add_u16;
 
 // In PIXEL two cells of eight dots each, else the first alone over sixteen; the pointers after the slot, and how many bytes were
 // fetched.
-#[derive(Drop)]
+#[derive(Clone, Copy)]
 pub struct Fetched {
     pub halves: bool,
     pub first: Cell,
@@ -53,14 +54,14 @@ fn no_fetch(at: Pointers) -> Fetched
 // PIXEL: two bytes of eight dots.
 fn pixel(ram: &[u8], block: Block, at: Pointers) -> Fetched
     requires { length ram.now ≡ 65536 }
-    ensures { result ≡ fetched_in PIXEL ram.now block at }
+    ensures { result ≡ fetched_in pixel_mode ram.now block at }
 {
     let a = at.ld1;
-    let b = wrapping_add_u16(a, 1);
+    let b = a.wrapping_add(1);
     let first = colour::graphics_cell(block, ram[a as usize]);
     let second = colour::graphics_cell(block, ram[b as usize]);
     let at = Pointers {
-        ld1: wrapping_add_u16(a, 2),
+        ld1: a.wrapping_add(2),
         ld2: at.ld2,
     };
     Fetched {
@@ -75,14 +76,14 @@ fn pixel(ram: &[u8], block: Block, at: Pointers) -> Fetched
 // ATTR: an attribute and a byte of sixteen dots.
 fn attribute(ram: &[u8], block: Block, at: Pointers) -> Fetched
     requires { length ram.now ≡ 65536 }
-    ensures { result ≡ fetched_in ATTR ram.now block at }
+    ensures { result ≡ fetched_in attribute_mode ram.now block at }
 {
     let attribute = at.ld1;
     let display = at.ld2;
     let cell = colour::attribute_cell(ram[attribute as usize], ram[display as usize]);
     let at = Pointers {
-        ld1: wrapping_add_u16(attribute, 1),
-        ld2: wrapping_add_u16(display, 1),
+        ld1: attribute.wrapping_add(1),
+        ld2: display.wrapping_add(1),
     };
     one_cell(cell, at, 2)
 }
@@ -97,7 +98,7 @@ fn character(ram: &[u8], block: Block, width: u8, at: Pointers) -> Fetched
     let display = font::font_address(width, at.ld2, code);
     let cell = colour::character_cell(block, code, ram[display as usize]);
     let at = Pointers {
-        ld1: wrapping_add_u16(a, 1),
+        ld1: a.wrapping_add(1),
         ld2: at.ld2,
     };
     one_cell(cell, at, 2)
@@ -111,7 +112,7 @@ fn lpixel(ram: &[u8], block: Block, at: Pointers) -> Fetched
     let a = at.ld1;
     let cell = colour::graphics_cell(block, ram[a as usize]);
     let at = Pointers {
-        ld1: wrapping_add_u16(a, 1),
+        ld1: a.wrapping_add(1),
         ld2: at.ld2,
     };
     one_cell(cell, at, 1)
@@ -183,7 +184,7 @@ fn active_sources(ram: &[u8], block: Block, at: Pointers, j: usize) -> Sources
             if j < 8 {
                 Sources::One(at.ld1)
             } else {
-                Sources::One(wrapping_add_u16(at.ld1, 1))
+                Sources::One(at.ld1.wrapping_add(1))
             }
         }
         ATTR => Sources::Two(at.ld1, at.ld2),

@@ -4,7 +4,7 @@ ghost use Rattle.std.specs.Prelude.{◌≤◌, length};
 use text::Number;
 
 // What was read into a buffer: whether the file could be read, and its length, or the buffer's where the file is longer.
-#[derive(Drop)]
+#[derive(Clone, Copy)]
 pub struct Contents {
     pub is_read: bool,
     pub length: usize,

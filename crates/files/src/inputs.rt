@@ -9,7 +9,7 @@ pub const RAM: usize = 1;
 pub const WRITES: usize = 2;
 
 // Whether both files are there to be used, and how much was read of each.
-#[derive(Drop)]
+#[derive(Clone, Copy)]
 pub struct Inputs {
     pub is_read: bool,
     pub ram: usize,

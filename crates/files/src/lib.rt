@@ -1,4 +1,6 @@
 // What the programs share: files and numbers named by the arguments, register writes from a file, and the lines printed.
+#![tactic(auto)]
+
 mod argument;
 mod colour_words;
 mod inputs;

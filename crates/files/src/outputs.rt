@@ -11,7 +11,7 @@ use text::Number;
 
 // Which arguments name the files: RAM; what is done to the chip, register writes or a script; the outputs; and EXTERNAL, which is the
 // last and may be absent.
-#[derive(Drop)]
+#[derive(Clone, Copy)]
 pub struct Places {
     pub ram: usize,
     pub commands: usize,
@@ -21,7 +21,7 @@ pub struct Places {
 }
 
 // Which inputs are the file that an output names.
-#[derive(Drop)]
+#[derive(Clone, Copy)]
 struct Named {
     ram: bool,
     commands: bool,

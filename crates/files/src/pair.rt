@@ -5,7 +5,7 @@ use crate::argument::read_argument;
 use crate::print::{print_unreadable, print_usage};
 
 // The first argument that could not be read, 0 for none, and how much was read of each file.
-#[derive(Drop)]
+#[derive(Clone, Copy)]
 pub struct Pair {
     pub unread: usize,
     pub first: usize,

@@ -8,7 +8,7 @@ use libc::types::{stat, timespec};
 use libc::{F_OK, PATH_MAX};
 
 // What tells a file from every other: the device that it is on, and its number there.
-#[derive(Drop)]
+#[derive(Clone, Copy)]
 struct File {
     is_found: bool,
     device: u64,

@@ -1,4 +1,6 @@
 // Prints the listing of the guide's vertical sequence at base 0.
+#![tactic(auto)]
+
 use libc::STDOUT_FILENO;
 use nick::Listed;
 

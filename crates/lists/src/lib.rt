@@ -1,4 +1,6 @@
 // Helpers that every layer uses: filling, the smaller of two numbers, pairs of bytes.
+#![tactic(auto)]
+
 ghost use Rattle.std.specs.Prelude.{◌≡◌, ◌+◌, ◌*◌, ◌/◌, ◌%◌, ◌≤◌, min, length, replicate};
 ghost use Rattle.lists.specs.Number.{number};
 

@@ -1,5 +1,7 @@
 // The NICK video chip: its state, register writes, the fresh state and the levels of a colour.
 // specs/ holds the rules of the chip as definitions; every contract of the repository cites them.
+#![tactic(auto)]
+
 ghost use Rattle.std.specs.Prelude.{◌≡◌};
 ghost use Rattle.nick.specs.Registers.{fresh_state, write_refusal, written};
 ghost use Rattle.nick.specs.Internal.{registered_as};
@@ -9,7 +11,7 @@ ghost use Rattle.nick.specs.Levels.{levels_of};
 pub const RECORD_BYTES: usize = 7;
 
 // The four registers that a program can write.
-#[derive(Drop)]
+#[derive(Clone, Copy)]
 pub struct Registers {
     pub fixbias: u8,
     pub border: u8,
@@ -18,14 +20,14 @@ pub struct Registers {
 }
 
 // The two video data pointers.
-#[derive(Drop)]
+#[derive(Clone, Copy)]
 pub struct Pointers {
     pub ld1: u16,
     pub ld2: u16,
 }
 
 // A line parameter block; `start` is where its pointers start.
-#[derive(Drop)]
+#[derive(Clone, Copy)]
 pub struct Block {
     pub sc: u8,
     pub mb: u8,
@@ -37,7 +39,7 @@ pub struct Block {
 
 // Where the chip stands in the line parameter table: reload pending, the stored block and its number, LD1 and LD2 now, and
 // the scanlines left in the mode line.
-#[derive(Drop)]
+#[derive(Clone, Copy)]
 pub struct Scan {
     pub pending: bool,
     pub block: Block,
@@ -47,7 +49,7 @@ pub struct Scan {
 }
 
 // All that carries over from one scanline to the next; `virq` says that VIRQ is low, `sync` that sync is on.
-#[derive(Drop)]
+#[derive(Clone, Copy)]
 pub struct State {
     pub registers: Registers,
     pub scan: Scan,
@@ -56,14 +58,14 @@ pub struct State {
 }
 
 // A pixel: a palette number 0 to 15, or in 256 colours the colour itself.
-#[derive(Drop)]
+#[derive(Clone, Copy)]
 pub enum Pixel {
     Palette(u8),
     Direct(u8),
 }
 
 // The levels of a colour: red and green of 7, blue of 3.
-#[derive(Drop)]
+#[derive(Clone, Copy)]
 pub struct Levels {
     pub red: u8,
     pub green: u8,
@@ -71,14 +73,14 @@ pub struct Levels {
 }
 
 // What a painting answers: the refusal, 0 for none, and the state afterwards.
-#[derive(Drop)]
+#[derive(Clone, Copy)]
 pub struct Painted {
     pub refusal: u8,
     pub state: State,
 }
 
 // The RAM addresses that a dot came from, in order.
-#[derive(Drop)]
+#[derive(Clone, Copy)]
 pub enum Sources {
     Nothing,
     One(u16),
@@ -86,21 +88,21 @@ pub enum Sources {
 }
 
 // What the direct answer says of a dot: the refusal's number, or its colour and where it came from.
-#[derive(Drop)]
+#[derive(Clone, Copy)]
 pub enum Answer {
     Refused(u8),
     Colour(u8, Sources),
 }
 
 // What the listing answers: its length, or the refusal's number.
-#[derive(Drop)]
+#[derive(Clone, Copy)]
 pub enum Listed {
     Length(usize),
     Refused(u8),
 }
 
 // What a register write answers: the refusal, 0 for none, and the state afterwards.
-#[derive(Drop)]
+#[derive(Clone, Copy)]
 pub struct Written {
     pub refusal: u8,
     pub state: State,

@@ -1,6 +1,8 @@
 // The library for C, Rust and Python: the chip's state is 32 bytes, and every call is an exported function that answers a
 // number. include/nick.h declares them. A state of another length than 32, or an answer of a comparison of another length than
 // 14, is refusal 20, before all else.
+#![tactic(auto)]
+
 ghost use Rattle.std.specs.Prelude.{◌≡◌, length};
 ghost use Rattle.nick.specs.Levels.{levels_of};
 ghost use Rattle.nick_c.specs.Calls.{Freshens, Writes, PaintsBytes, ListsBytes, ComparesBytes, RunsBytes, packed_dot, kept, run_from, ran_state};
@@ -136,7 +138,7 @@ fn put_compared(compared: Compared, answer: &mut [u8]) -> u32
         Compared::Refused(refusal) => packed_refusal(refusal),
         Compared::Found(found) => {
             let bytes = found_bytes(found);
-            bytes::copy(&bytes, answer);
+            answer.copy_from_slice(&bytes);
             0
         }
     }

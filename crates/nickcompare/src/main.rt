@@ -1,5 +1,7 @@
 // Compares a capture with a frame, and says how far it is off:
 // nickcompare HEIGHT CAPTURE CAPTURE-RECORDS FRAME FRAME-RECORDS
+#![tactic(auto)]
+
 mod print;
 
 ghost use Rattle.std.specs.Prelude.{◌≡◌};

@@ -1,5 +1,7 @@
 // Says what one dot shows and which bytes of RAM it comes from:
 // nickdot RAM WRITES LINE DOT [EXTERNAL-BYTE]
+#![tactic(auto)]
+
 ghost use Rattle.std.specs.Prelude.{◌≡◌, length};
 ghost use Rattle.nick.specs.Numbers.{byte_at};
 ghost use Rattle.nick.specs.Direct.{answered};

@@ -1,5 +1,7 @@
 // Lists the line parameter table:
 // nicklist RAM WRITES
+#![tactic(auto)]
+
 ghost use Rattle.std.specs.Prelude.{◌≤◌, length as List·length};
 ghost use Rattle.nicklist.specs.ListingAfterWrites.{ListsAfter};
 

@@ -2,6 +2,8 @@
 // nickpaint RAM WRITES HEIGHT DOTS RECORDS [EXTERNAL]
 //
 // RECORDS is stamped before there are buffers, so that it is stamped also where the stack has no room for them.
+#![tactic(auto)]
+
 ghost use Rattle.std.specs.Prelude.{◌≡◌, ◌*◌, length};
 ghost use Rattle.nick.specs.Sizes.{record_bytes};
 ghost use Rattle.nickpaint.specs.PaintingAfterWrites.{PaintsAfter};
@@ -29,7 +31,7 @@ const PLACES: Places = Places {
 };
 
 // What is left to do once RECORDS is stamped.
-#[derive(Drop)]
+#[derive(Clone, Copy)]
 enum Task {
     Paint(usize),
     Nothing,

@@ -2,6 +2,8 @@
 // nickrun RAM SCRIPT DOTS RECORDS [EXTERNAL]
 //
 // RECORDS is stamped before there are buffers, with one line, and again once it is known how many lines the script asks for.
+#![tactic(auto)]
+
 mod print;
 
 ghost use Rattle.std.specs.Prelude.{◌≡◌, ◌*◌, ◌&&◌, eqb, leb, length};
@@ -35,7 +37,7 @@ const PLACES: Places = Places {
 };
 
 // How many bytes of dots and of records are lent to a run.
-#[derive(Drop)]
+#[derive(Clone, Copy)]
 struct Lent {
     dots: usize,
     records: usize,

@@ -1,5 +1,7 @@
 // Answers as numbers, for the exported calls: the direct answer and the listing's in 64 bits, levels in 32, a comparison's and a
 // run's.
+#![tactic(auto)]
+
 mod compared;
 mod runs;
 

@@ -1,5 +1,7 @@
 // Painting scanlines: one, and 1 to 1,024 in order, with every refusal of the table. The refusals come first, then the
 // scanlines one after another.
+#![tactic(auto)]
+
 ghost use Rattle.std.specs.Prelude.{◌≡◌, false, ◌+◌, ◌*◌, ◌<◌, ◌≤◌, length};
 ghost use Rattle.nick.specs.Sizes.{record_bytes};
 ghost use Rattle.nick.specs.Refusals.{Formed, Accepted, lines_refusal};

@@ -5,7 +5,7 @@ use cases::Source;
 use nick::{Answer, Sources, State};
 
 // Where a case stands between two questions.
-#[derive(Drop)]
+#[derive(Clone, Copy)]
 struct Turn {
     source: Source,
     digest: u64,

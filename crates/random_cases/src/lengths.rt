@@ -11,7 +11,7 @@ use nick::RECORD_BYTES;
 const OLD_RECORD_BYTES: usize = 4;
 
 // The height asked for, and the height that the buffers are made for.
-#[derive(Drop)]
+#[derive(Clone, Copy)]
 pub struct Heights {
     pub asked: usize,
     pub lent: usize,

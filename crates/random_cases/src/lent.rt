@@ -8,7 +8,7 @@ use cases::{Head, Source};
 use nick::State;
 
 // How much of each whole buffer is lent.
-#[derive(Drop)]
+#[derive(Clone, Copy)]
 pub struct Parts {
     pub ram: usize,
     pub dots: usize,

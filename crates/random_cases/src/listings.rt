@@ -4,7 +4,7 @@ ghost use Rattle.std.specs.Prelude.{◌≡◌, ◌<◌, ◌≤◌, length};
 use nick::{Listed, Registers, State};
 
 // Where a case stands after a call: the digest, and the listing's length, 0 if it was refused.
-#[derive(Drop)]
+#[derive(Clone, Copy)]
 struct Turn {
     digest: u64,
     length: usize,

@@ -1,4 +1,6 @@
 // Runs the proved code on the random cases of second/README.md, family by family, and prints the lines of each.
+#![tactic(auto)]
+
 mod comparisons;
 mod dots;
 mod frames;
@@ -15,7 +17,7 @@ ghost use Rattle.random_cases.specs.Lengths.{Whole};
 use nick::RECORD_BYTES;
 
 // A family: each has its module.
-#[derive(Drop)]
+#[derive(Clone, Copy)]
 enum Family {
     Writes,
     Frames,

@@ -13,7 +13,7 @@ use script::{Outcome, Ran};
 use steps::{Drawing, draw_script};
 
 // A call: a script of `length` bytes, from a state, with these parts of the other buffers.
-#[derive(Drop)]
+#[derive(Clone, Copy)]
 struct Call {
     state: State,
     length: usize,

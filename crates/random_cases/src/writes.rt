@@ -3,7 +3,7 @@ use cases::Source;
 use nick::State;
 
 // Where a case stands between two writes.
-#[derive(Drop)]
+#[derive(Clone, Copy)]
 struct Turn {
     source: Source,
     state: State,

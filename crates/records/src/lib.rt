@@ -1,4 +1,6 @@
 // The line record and how it is written, its flags, active slots and VC1, and sync through a scanline.
+#![tactic(auto)]
+
 mod record;
 mod sync;
 

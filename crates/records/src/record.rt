@@ -9,7 +9,7 @@ use lists::{bit, high, low};
 use nick::{Block, Registers};
 
 // The record of a scanline; `number` is that of the block in force.
-#[derive(Drop)]
+#[derive(Clone, Copy)]
 pub struct Record {
     pub flags: u8,
     pub sync: u8,

@@ -6,7 +6,7 @@ use blocks::{VSYNC, video_mode};
 use nick::Block;
 
 // The level, and the slots counted at sync level.
-#[derive(Drop)]
+#[derive(Clone, Copy)]
 pub struct Sync {
     pub on: bool,
     pub count: u8,

@@ -1,4 +1,6 @@
 // Prints every refusal as the programs print it, in the order of their numbers; 11 is given by no call.
+#![tactic(auto)]
+
 fn main() {
     files::print_refusal(1);
     files::print_refusal(2);

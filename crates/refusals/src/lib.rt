@@ -1,4 +1,6 @@
 // The tests of the refusal table, each made by several calls: a test says that its refusal applies.
+#![tactic(auto)]
+
 ghost use Rattle.std.specs.Prelude.{◌≡◌, not, ◌||◌, ◌*◌, ◌≤◌, eqb, length};
 ghost use Rattle.nick.specs.Sizes.{record_bytes};
 ghost use Rattle.nick.specs.Refusals.{ill_formed, not_full, bad_height, any_stamped};

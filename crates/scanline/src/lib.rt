@@ -1,4 +1,6 @@
 // One scanline: its dots, its record and the state after it.
+#![tactic(auto)]
+
 ghost use Rattle.std.specs.Prelude.{◌≡◌, ◌+◌, ◌-◌, ◌*◌, ◌<◌, ◌≤◌, length, if◌then◌else◌};
 ghost use Rattle.nick.specs.Sizes.{record_bytes};
 ghost use Rattle.nick.specs.Slots.{mode_of, line_pointers};
@@ -96,7 +98,7 @@ fn end_pointers(block: Block, at: Pointers) -> Pointers
     match mode {
         CH256..=CH64 => Pointers {
             ld1: at.ld1,
-            ld2: std::num::wrapping_add_u16(at.ld2, 1),
+            ld2: at.ld2.wrapping_add(1),
         },
         _ => at,
     }

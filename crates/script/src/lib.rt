@@ -1,5 +1,7 @@
 // The bench's scripts: steps of three bytes that write ports, paint scanlines, and serve the interrupt latch of the sound chip.
 // specs/Steps.antt and specs/Runs.antt have the rules.
+#![tactic(auto)]
+
 mod steps;
 mod table;
 
@@ -13,7 +15,7 @@ pub use table::lines_in;
 use table::refusal_of;
 
 // The bench as it stands: the chip's state, the interrupt latch and enable, and how many scanlines are painted.
-#[derive(Drop)]
+#[derive(Clone, Copy)]
 pub struct Bench {
     pub state: State,
     pub latch: bool,
@@ -22,7 +24,7 @@ pub struct Bench {
 }
 
 // How a run ended: all steps done; refused before the first step; or stopped at a step, which has a place, from 0.
-#[derive(Drop)]
+#[derive(Clone, Copy)]
 pub enum Outcome {
     Done,
     Refused(u8),
@@ -30,14 +32,14 @@ pub enum Outcome {
 }
 
 // What steps leave: whether the last was refused, and the bench.
-#[derive(Drop)]
+#[derive(Clone, Copy)]
 pub struct Stepped {
     pub outcome: Outcome,
     pub bench: Bench,
 }
 
 // What a run answers.
-#[derive(Drop)]
+#[derive(Clone, Copy)]
 pub struct Ran {
     pub outcome: Outcome,
     pub bench: Bench,

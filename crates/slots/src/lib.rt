@@ -1,4 +1,6 @@
 // One slot of a scanline: the sixteen dots that it shows of what it fetches.
+#![tactic(auto)]
+
 ghost use Rattle.std.specs.Prelude.{◌≡◌, ◌<◌, ◌≤◌, length};
 ghost use Rattle.colour.specs.Cell.{palette_of};
 ghost use Rattle.slots.specs.Shows.{fetched_dots};
@@ -10,7 +12,7 @@ use fetch::Fetched;
 use nick::{Block, Pointers, Registers};
 
 // The pointers after a slot, and the bytes fetched.
-#[derive(Drop)]
+#[derive(Clone, Copy)]
 pub struct Slot {
     pub at: Pointers,
     pub fetched: u8,

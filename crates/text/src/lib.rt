@@ -1,5 +1,7 @@
 // Writing text into a buffer from a place on: each function answers the place after its text, and bytes past the buffer's
 // end are counted and not stored. Reading a number is in module `number`.
+#![tactic(auto)]
+
 ghost use Rattle.std.specs.Prelude.{[], ◌∷◌};
 ghost use Rattle.text.specs.Decimal.{TAB, decimal, tabbed};
 ghost use Rattle.text.specs.Writing.{Room, Wrote};

@@ -3,7 +3,7 @@ ghost use Rattle.std.specs.Prelude.{◌+◌, ◌*◌, ◌≤◌, min, ◌≡◌}
 ghost use Rattle.text.specs.Reading.{digit as Reading·digit, number_of};
 
 // A number as a text gives it; numbers over 65,536 count as 65,536.
-#[derive(Drop)]
+#[derive(Clone, Copy)]
 pub enum Number {
     Value(usize),
     Missing,

@@ -1,5 +1,7 @@
 // The walk from line parameter block to line parameter block, and the pointers at a slot, with no scanline or slot stepped
 // singly.
+#![tactic(auto)]
+
 ghost use Rattle.std.specs.Prelude.{◌≡◌, ◌<◌, ◌≤◌, min, length, if◌then◌else◌};
 ghost use Rattle.nick.specs.Blocks.{vres};
 ghost use Rattle.nick.specs.Slots.{mode_numbered};
@@ -12,7 +14,7 @@ use blocks::{ATTR, CH64, CH256, LPIXEL, PIXEL, active_before, has_vres, video_mo
 use nick::{Block, Pointers, Registers, Scan};
 
 // By how much LD1 and LD2 go up at an active slot, and LD2 at a scanline's end.
-#[derive(Drop)]
+#[derive(Clone, Copy)]
 struct Steps {
     pub ld1: u16,
     pub ld2: u16,
@@ -20,7 +22,7 @@ struct Steps {
 }
 
 // One turn of the walk: how many scanlines it went on, and the scan after them.
-#[derive(Drop)]
+#[derive(Clone, Copy)]
 struct Turned {
     lines: usize,
     scan: Scan,
@@ -52,8 +54,8 @@ fn advance(at: Pointers, ld1: u16, ld2: u16) -> Pointers
     ensures { result ≡ advanced ld1 ld2 at }
 {
     Pointers {
-        ld1: std::num::wrapping_add_u16(at.ld1, ld1),
-        ld2: std::num::wrapping_add_u16(at.ld2, ld2),
+        ld1: at.ld1.wrapping_add(ld1),
+        ld2: at.ld2.wrapping_add(ld2),
     }
 }
 

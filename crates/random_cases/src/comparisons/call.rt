@@ -6,7 +6,7 @@ use crate::lengths::{dots_length, heights_of, records_length};
 use cases::Head;
 
 // A call: a comparison of `height` lines, with buffers of these lengths.
-#[derive(Drop)]
+#[derive(Clone, Copy)]
 pub struct Call {
     pub height: usize,
     pub capture: usize,

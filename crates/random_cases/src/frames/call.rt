@@ -9,7 +9,7 @@ use cases::Head;
 use nick::State;
 
 // A call: of one line or of `height` lines, from a state, with these parts of the buffers.
-#[derive(Drop)]
+#[derive(Clone, Copy)]
 pub struct Call {
     pub single: bool,
     pub state: State,

@@ -6,7 +6,7 @@ use crate::lengths::wide;
 use cases::{Case, Source};
 
 // A script that is drawn: the generator after it, its length, and the height that the buffers are made for.
-#[derive(Drop)]
+#[derive(Clone, Copy)]
 pub struct Drawing {
     pub source: Source,
     pub length: usize,
@@ -14,7 +14,7 @@ pub struct Drawing {
 }
 
 // The kinds of a script's steps: mixed as drawn, all of them 1, or none.
-#[derive(Drop)]
+#[derive(Clone, Copy)]
 enum Kinds {
     Mixed,
     Painting,

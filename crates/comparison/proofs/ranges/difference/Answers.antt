@@ -1,0 +1,25 @@
+-- `comparison::ranges::difference`: two levels as signed numbers, and their difference, which is small.
+use Rattle.std.proofs.Common.{ap, ◌∙◌, ◌≡◌}
+use Rattle.nick.specs.Levels.{levels_of}
+use Rattle.comparison.specs.Comparison.{level_of}
+use Rattle.comparison.proofs.Signed.{minus_fits, minus_read}
+use Rattle.comparison.proofs.ranges.difference.Goals as goal
+
+-- the two levels
+of-capture :
+    (c : tie.After-level2) → let a = c.args in c.level.result ≡ level_of a.channel (levels_of a.capture)
+of-capture c =
+    c.level.ensures ∙ ap (level_of c.args.channel) c.levels_of.ensures
+
+of-frame : (c : tie.After-level2) → let a = c.args in c.level-2.result ≡ level_of a.channel (levels_of a.frame)
+of-frame c = c.level-2.ensures ∙ ap (level_of c.args.channel) c.levels_of-2.ensures
+
+pub overflow_sub-result : goal.overflow_sub-result
+overflow_sub-result c =
+    let a = c.args in
+    minus_fits a.channel a.capture a.frame c.level.result c.level-2.result (of-capture c) (of-frame c)
+
+pub returns : goal.returns
+returns c =
+    let a = c.args in
+    minus_read a.channel a.capture a.frame c.level.result c.level-2.result (of-capture c) (of-frame c)

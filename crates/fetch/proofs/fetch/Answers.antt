@@ -1,0 +1,34 @@
+-- `fetch::fetch`: each arm of the match is its mode.
+use Rattle.std.proofs.Common.{arith, sym, ◌∙◌, ◌≡◌}
+use Rattle.nick.specs.Slots.{mode_numbered}
+use Rattle.fetch.proofs.fetch.Goals as goal
+
+pub code_width-requires : goal.code_width-requires
+code_width-requires c = (omega arith, omega arith)
+
+pub returns-in-0 : goal.returns-in-0
+unfolding mode_numbered
+returns-in-0 c = rw (sym c.video_mode-mode.ensures.0 ∙ c.in-0.is) c.no_fetch.ensures
+
+pub returns-in-1 : goal.returns-in-1
+unfolding mode_numbered
+returns-in-1 c = rw (sym c.video_mode-mode.ensures.0 ∙ c.in-1.is) c.pixel.ensures
+
+pub returns-in-2 : goal.returns-in-2
+unfolding mode_numbered
+returns-in-2 c = rw (sym c.video_mode-mode.ensures.0 ∙ c.in-2.is) c.attribute.ensures
+
+pub returns-in-6 : goal.returns-in-6
+unfolding mode_numbered
+returns-in-6 c = rw (sym c.video_mode-mode.ensures.0 ∙ c.in-6.is) c.no_fetch-in-6.ensures
+
+pub returns-in-3-to-5 : goal.returns-in-3-to-5
+returns-in-3-to-5 c =
+    rw (← c.video_mode-mode.ensures.0, c.code_width.ensures.0) c.character.ensures
+
+pub returns-in_default : goal.returns-in_default
+unfolding mode_numbered
+returns-in_default c =
+    let mode = c.video_mode-mode in
+    let seven : mode.result ≡ 7 = omega arith in
+    rw (sym mode.ensures.0 ∙ seven) c.lpixel.ensures

@@ -1,0 +1,10 @@
+-- `slots::show::show_four`: after k turns the first k pixels are shown.
+use Rattle.std.proofs.Common.{drop, length, ◌*◌, ◌++◌, ◌-◌, ◌≡◌, ◌≤◌}
+use Rattle.slots.specs.Shows.{runs, four_shown}
+use Rattle.slots.proofs.show.show_four.Given as goal
+
+abbrev pub invariant-loop-k : goal.invariant-loop-k
+invariant-loop-k l = (l.k ≤ 4) × (length l.out ≡ length l.initial.out) × (l.out ≡ runs (four_shown l.palette l.byte) l.k l.run ++ drop (l.k * l.run) l.initial.out)
+
+abbrev pub decreases-loop-k : goal.decreases-loop-k
+decreases-loop-k l = 4 - l.k
