@@ -1,4 +1,5 @@
 -- `slots::show::show_narrow`: each arm of the match is its colour mode.
+use Rattle.std.proofs.Common.{arith}
 use Rattle.std.proofs.Common.{◌∙◌}
 use Rattle.colour.proofs.Pixels.{two_else}
 use Rattle.slots.proofs.CellRuns.{dots_two, dots_four, dots_sixteen, dots_all}
@@ -19,6 +20,6 @@ returns-in-3 c =
 
 pub returns-in_default : goal.returns-in_default
 returns-in_default c =
-    let none = c.in-1.rest in
     let a = c.args in
-    c.show_two.ensures ∙ dots_two a.palette.now a.cell 1 (two_else a.cell.colours none.0.0.1 none.0.1 none.1)
+    c.show_two.ensures
+    ∙ dots_two a.palette.now a.cell 1 (two_else a.cell.colours (λ e. omega arith) (λ e. omega arith) (λ e. omega arith))
