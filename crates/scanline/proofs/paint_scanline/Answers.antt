@@ -4,20 +4,12 @@ use Rattle.nick.proofs.WellFormed.{begun_some}
 use Rattle.scanline.proofs.Scanlines.{dots_are, state_is, record_is}
 use Rattle.scanline.proofs.paint_scanline.Goals as goal
 
-pub begin-begun-requires : goal.begin-begun-requires
-begin-begun-requires c =
-    (c.requires.0.0, c.requires.1.number)
-
 pub end_scan-scan-requires : goal.end_scan-scan-requires
 end_scan-scan-requires c =
     let begin = c.begin-begun in
     let a = c.args in
     let sc : begin.result.block.sc < 256 = omega (arith, begin.type_inv) in
     rw begin.ensures (begun_some a.state.registers a.ram.now a.state.scan (rw begin.ensures at sc))
-
-pub put_record-requires : goal.put_record-requires
-put_record-requires c =
-    c.requires.0.2
 
 pub returns : goal.returns
 returns c =
