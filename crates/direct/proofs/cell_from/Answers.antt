@@ -1,4 +1,5 @@
 -- `direct::cell_from`: each arm of the match is its mode; the modes with one byte are one arm.
+use Rattle.direct.proofs.cell_from.Goals.{in_default-via-then-mode-lt2, in_default-via-else-mode-lt2+else-mode-lt6}
 use Rattle.std.proofs.Common.{arith, sym, ⊎_elim, ◌∙◌}
 use Rattle.nick.specs.Slots.{mode_numbered}
 use Rattle.nick.proofs.ModeNumbers.{characters}
@@ -20,8 +21,8 @@ returns-in_default c =
     let mode = c.video_mode-mode in
     let m = mode.result in
     c.graphics_cell.ensures
-    ∙ rw (← mode.ensures.0)
-    (⊎_elim
-    (λ w. low_cell a.block a.first a.second m (omega arith))
-    (λ w. high_cell a.block a.first a.second m (omega arith) mode.ensures.1)
-    c.if-mode-lt2.branch)
+    ∙ rw (← mode.ensures.0) (
+      elim c.in_default.branch [
+        in_default-via-then-mode-lt2 w ↦ low_cell a.block a.first a.second m (omega arith)
+        | in_default-via-else-mode-lt2+else-mode-lt6 w ↦ high_cell a.block a.first a.second m (omega arith) mode.ensures.1
+      ])

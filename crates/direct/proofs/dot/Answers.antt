@@ -5,13 +5,6 @@ use Rattle.direct.proofs.DotFromBytes.{direct_refused, direct_answered}
 use Rattle.direct.proofs.dot.Goals as goal
 
 -- nothing is refused
-none : (c : tie.Else1) → c.refusal-refusal.result ≡ 0
-none c = omega arith
-
-asked : (c : tie.Else1) → let a = c.args in Answerable a.state a.ram.now a.line a.dot
-asked c =
-    let a = c.args in
-    answerable a.state a.ram.now a.line a.dot (sym c.refusal-refusal.ensures ∙ none c)
 
 pub returns-then-refusal-ne0 : goal.returns-then-refusal-ne0
 returns-then-refusal-ne0 c =
@@ -20,15 +13,26 @@ returns-then-refusal-ne0 c =
     direct_refused a.state a.ram.now a.line a.dot a.external table.result table.ensures c.if-refusal-ne0.true
 
 pub begin_line-begun-requires : goal.begin_line-begun-requires
-begin_line-begun-requires c = ((asked c).full, (asked c).formed)
+begin_line-begun-requires c =
+    let none : c.refusal-refusal.result ≡ 0 = omega arith in
+    let asked : (let a = c.args in Answerable a.state a.ram.now a.line a.dot) = (let a = c.args in
+    answerable a.state a.ram.now a.line a.dot (sym c.refusal-refusal.ensures ∙ none)) in
+    (asked.full, asked.formed)
 
 pub begun_dot-requires : goal.begun_dot-requires
-begun_dot-requires c = ((asked c).full, omega (arith, (asked c).dot))
+begun_dot-requires c =
+    let none : c.refusal-refusal.result ≡ 0 = omega arith in
+    let asked : (let a = c.args in Answerable a.state a.ram.now a.line a.dot) = (let a = c.args in
+    answerable a.state a.ram.now a.line a.dot (sym c.refusal-refusal.ensures ∙ none)) in
+    (asked.full, omega (arith, asked.dot))
 
 pub returns : goal.returns
 returns c =
+    let none : c.refusal-refusal.result ≡ 0 = omega arith in
+    let asked : (let a = c.args in Answerable a.state a.ram.now a.line a.dot) = (let a = c.args in
+    answerable a.state a.ram.now a.line a.dot (sym c.refusal-refusal.ensures ∙ none)) in
     let begun = c.begin_line-begun in
     let table = c.refusal-refusal in
     let a = c.args in
     c.begun_dot.ensures
-    ∙ direct_answered a.state a.ram.now a.line a.dot a.external table.result table.ensures begun.result (none c) (asked c).dot begun.ensures
+    ∙ direct_answered a.state a.ram.now a.line a.dot a.external table.result table.ensures begun.result none asked.dot begun.ensures

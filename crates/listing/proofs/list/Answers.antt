@@ -6,8 +6,6 @@ use Rattle.listing.proofs.ListAnswers.{wrote_nothing, refused_ram, refused_short
 use Rattle.listing.proofs.list.Goals as goal
 
 -- RAM is whole
-whole : (c : tie.Else1) → not_full c.args.ram.now ≡ false
-whole c = sym c.is_not_full.ensures ∙ c.if-is_not_full.false
 
 pub returns-then-is_not_full : goal.returns-then-is_not_full
 returns-then-is_not_full c =
@@ -15,21 +13,26 @@ returns-then-is_not_full c =
     refused_ram a.registers a.ram.now a.out.now (sym c.is_not_full.ensures ∙ c.if-is_not_full.true)
 
 pub put_listing-length-requires : goal.put_listing-length-requires
-put_listing-length-requires c = full c.args.ram.now (whole c)
+put_listing-length-requires c =
+    let whole : not_full c.args.ram.now ≡ false = sym c.is_not_full.ensures ∙ c.if-is_not_full.false in
+    full c.args.ram.now whole
 
 pub returns-then-room-length : goal.returns-then-room-length
 returns-then-room-length c =
+    let whole : not_full c.args.ram.now ≡ false = sym c.is_not_full.ensures ∙ c.if-is_not_full.false in
     let counted = c.put_listing-length.ensures in
     let a = c.args in
-    rw (wrote_nothing counted) (refused_short a.registers a.ram.now a.out.now (whole c) counted.ends (omega arith))
+    rw (wrote_nothing counted) (refused_short a.registers a.ram.now a.out.now whole counted.ends (omega arith))
 
 pub put_listing-requires : goal.put_listing-requires
 put_listing-requires c =
-    full c.args.ram.now (whole c)
+    let whole : not_full c.args.ram.now ≡ false = sym c.is_not_full.ensures ∙ c.if-is_not_full.false in
+    full c.args.ram.now whole
 
 pub returns : goal.returns
 returns c =
+    let whole : not_full c.args.ram.now ≡ false = sym c.is_not_full.ensures ∙ c.if-is_not_full.false in
     let counted = c.put_listing-length.ensures in
     let a = c.args in
     let wrote = rw (wrote_nothing counted) at c.put_listing.ensures in
-    listed a.registers a.ram.now a.out.now (whole c) counted.ends (omega arith) wrote
+    listed a.registers a.ram.now a.out.now whole counted.ends (omega arith) wrote

@@ -6,11 +6,11 @@ use Rattle.nick_c.proofs.nick_compare.Goals as goal
 pub returns-then-answer-ne-COMPARISON_BYTES : goal.returns-then-answer-ne-COMPARISON_BYTES
 returns-then-answer-ne-COMPARISON_BYTES c =
     let a = c.args in
-    compare_refused a.height a.capture.now a.capture-records.now a.frame.now a.frame-records.now a.answer.now c.if-answer-ne-COMPARISON_BYTES.true
+    compare_refused a.height a.capture.now a.capture_records.now a.frame.now a.frame_records.now a.answer.now c.if-answer-ne-COMPARISON_BYTES.true
 
 pub returns : goal.returns
 returns c =
     let put = c.put_compared in
     let a = c.args in
-    compare_done a.height a.capture.now a.capture-records.now a.frame.now a.frame-records.now a.answer.now _ put.result (omega arith)
+    compare_done a.height a.capture.now a.capture_records.now a.frame.now a.frame_records.now a.answer.now _ put.result (omega arith)
     c.compare-compared.ensures put.ensures

@@ -18,5 +18,5 @@ returns c =
       dots = rw (dots-size, painted.dots, own);
       records = rw (record-size, painted.bytes);
       state = painted.state;
-      formed = rw painted.state (next_state_formed a.ram.now a.state (omega (arith, c.ranges)) c.requires.1);
+      formed = rw painted.state (next_state_formed a.ram.now a.state (omega (arith, c.ranges)) c.requires.formed);
     }

@@ -6,8 +6,6 @@ use Rattle.painting.proofs.FrameLines.{paints_refused, paints_accepted}
 use Rattle.painting.proofs.paint_lines.Goals as goal
 
 -- the number that the table gives
-given : (c : tie.After-lines-refusal) → c.lines_refusal-refusal.result ≡ painting_refusal c.args.state c.args.ram.now c.args.height c.args.dots.now c.args.records.now c.args.external.now
-given c = c.lines_refusal-refusal.ensures ∙ rw c.is_bad_height-bad_height.ensures refl
 
 pub lines_refusal-refusal-requires : goal.lines_refusal-refusal-requires
 lines_refusal-refusal-requires c =
@@ -15,19 +13,22 @@ lines_refusal-refusal-requires c =
 
 pub returns-then-refusal-ne0 : goal.returns-then-refusal-ne0
 returns-then-refusal-ne0 c =
+    let given : c.lines_refusal-refusal.result ≡ painting_refusal c.args.state c.args.ram.now c.args.height c.args.dots.now c.args.records.now c.args.external.now = c.lines_refusal-refusal.ensures ∙ rw c.is_bad_height-bad_height.ensures refl in
     let a = c.args in
-    paints_refused a.state a.ram.now a.height a.dots.now a.records.now a.external.now c.lines_refusal-refusal.result (given c) _
+    paints_refused a.state a.ram.now a.height a.dots.now a.records.now a.external.now c.lines_refusal-refusal.result given _
     c.if-refusal-ne0.true c.fill.ensures
 
 pub paint_accepted-state-requires : goal.paint_accepted-state-requires
 paint_accepted-state-requires c =
+    let given : c.lines_refusal-refusal.result ≡ painting_refusal c.args.state c.args.ram.now c.args.height c.args.dots.now c.args.records.now c.args.external.now = c.lines_refusal-refusal.ensures ∙ rw c.is_bad_height-bad_height.ensures refl in
     let a = c.args in
     let none : c.lines_refusal-refusal.result ≡ 0 = omega arith in
-    accepted a.state a.ram.now a.height a.dots.now a.records.now a.external.now (sym (given c) ∙ none)
+    accepted a.state a.ram.now a.height a.dots.now a.records.now a.external.now (sym given ∙ none)
 
 pub returns : goal.returns
 returns c =
+    let given : c.lines_refusal-refusal.result ≡ painting_refusal c.args.state c.args.ram.now c.args.height c.args.dots.now c.args.records.now c.args.external.now = c.lines_refusal-refusal.ensures ∙ rw c.is_bad_height-bad_height.ensures refl in
     let a = c.args in
     let none : c.lines_refusal-refusal.result ≡ 0 = omega arith in
-    paints_accepted a.state a.ram.now a.height a.dots.now a.records.now a.external.now c.lines_refusal-refusal.result (given c) _ _ _
+    paints_accepted a.state a.ram.now a.height a.dots.now a.records.now a.external.now c.lines_refusal-refusal.result given _ _ _
     none c.paint_accepted-state.ensures

@@ -5,12 +5,6 @@ use Rattle.script.proofs.RunTable.{run_accepted, runs_refused, records_inside, r
 use Rattle.script.proofs.run.Goals as goal
 
 -- the records painted lie inside their buffer
-inside : (c : tie.After-do-steps) → record_bytes * c.do_steps-stepped.result.bench.lines ≤ length c.args.records.now
-inside c =
-    let a = c.args in
-    let none : c.refusal_of-refusal.result ≡ 0 = omega arith in
-    records_inside a.state a.ram.now a.script.now a.dots.now a.records.now a.external.now _ c.refusal_of-refusal.ensures none
-    c.do_steps-stepped.ensures
 
 pub returns-then-refusal-ne0 : goal.returns-then-refusal-ne0
 returns-then-refusal-ne0 c =
@@ -25,13 +19,28 @@ do_steps-stepped-requires c =
     run_accepted a.state a.ram.now a.script.now a.dots.now a.records.now a.external.now (sym c.refusal_of-refusal.ensures ∙ none)
 
 pub overflow_mul-painted : goal.overflow_mul-painted
-overflow_mul-painted c = omega (arith, inside c, c.ranges)
+overflow_mul-painted c =
+    let inside : record_bytes * c.do_steps-stepped.result.bench.lines ≤ length c.args.records.now = (let a = c.args in
+    let none : c.refusal_of-refusal.result ≡ 0 = omega arith in
+    records_inside a.state a.ram.now a.script.now a.dots.now a.records.now a.external.now _ c.refusal_of-refusal.ensures none
+    c.do_steps-stepped.ensures) in
+    omega (arith, inside, c.ranges)
 
 pub slice_bounds-fill-count : goal.slice_bounds-fill-count
-slice_bounds-fill-count c = omega (arith, inside c, c.records-2-1.given)
+slice_bounds-fill-count c =
+    let inside : record_bytes * c.do_steps-stepped.result.bench.lines ≤ length c.args.records.now = (let a = c.args in
+    let none : c.refusal_of-refusal.result ≡ 0 = omega arith in
+    records_inside a.state a.ram.now a.script.now a.dots.now a.records.now a.external.now _ c.refusal_of-refusal.ensures none
+    c.do_steps-stepped.ensures) in
+    omega (arith, inside, c.records-2-1.given)
 
 pub slice_bounds-fill-start : goal.slice_bounds-fill-start
-slice_bounds-fill-start c = omega (arith, inside c, c.records-2-1.given)
+slice_bounds-fill-start c =
+    let inside : record_bytes * c.do_steps-stepped.result.bench.lines ≤ length c.args.records.now = (let a = c.args in
+    let none : c.refusal_of-refusal.result ≡ 0 = omega arith in
+    records_inside a.state a.ram.now a.script.now a.dots.now a.records.now a.external.now _ c.refusal_of-refusal.ensures none
+    c.do_steps-stepped.ensures) in
+    omega (arith, inside, c.records-2-1.given)
 
 pub returns : goal.returns
 returns c =

@@ -8,44 +8,40 @@ use Rattle.listing.proofs.Pieces.{LineLength, line_text, line_length}
 use Rattle.listing.proofs.line.put_block.Goals as goal
 
 -- the length of the line by its pieces
-whole : (c : tie.After-numbers-after-name) → LineLength c.args.number c.args.block c.numbers_after_name-numbers.result
-whole c = line_length c.args.number c.args.block c.numbers_after_name-numbers.result c.numbers_after_name-numbers.ensures
-
--- where the mode name begins: after the address, the scanlines and a tab
-name-at :
-    (c : tie.After-put-byte) →
-    let a = c.args in c.put_byte-at.result ≡ a.at + length (decimal (16 * a.number)) + length (field (256 - a.block.sc)) + 1
-name-at c =
-    omega (arith, c.put_decimal-at.ensures.ends, c.put_field-at.ensures.ends, c.put_byte-at.ensures.ends)
-
--- the name that is put is that of the block's mode
-named :
-    (c : tie.After-video-mode) →
-    length (mode_name c.video_mode.result) ≡ length (mode_name (mode_number c.args.block))
-named c = ap (λ (n : ℕ). length (mode_name n)) c.video_mode.ensures.0
 
 pub put_decimal-at-requires : goal.put_decimal-at-requires
-put_decimal-at-requires c = omega (arith, whole c)
+put_decimal-at-requires c =
+    let whole : LineLength c.args.number c.args.block c.numbers_after_name-numbers.result = line_length c.args.number c.args.block c.numbers_after_name-numbers.result c.numbers_after_name-numbers.ensures in
+    omega (arith, whole)
 
 pub put_field-at-requires : goal.put_field-at-requires
 put_field-at-requires c =
-    omega (arith, whole c)
+    let whole : LineLength c.args.number c.args.block c.numbers_after_name-numbers.result = line_length c.args.number c.args.block c.numbers_after_name-numbers.result c.numbers_after_name-numbers.ensures in
+    omega (arith, whole)
 
 pub put_byte-at-requires : goal.put_byte-at-requires
 put_byte-at-requires c =
-    omega (arith, whole c)
+    let whole : LineLength c.args.number c.args.block c.numbers_after_name-numbers.result = line_length c.args.number c.args.block c.numbers_after_name-numbers.result c.numbers_after_name-numbers.ensures in
+    omega (arith, whole)
 
 pub put_name-at-requires : goal.put_name-at-requires
 put_name-at-requires c =
-    omega (arith, named c, whole c)
+    let whole : LineLength c.args.number c.args.block c.numbers_after_name-numbers.result = line_length c.args.number c.args.block c.numbers_after_name-numbers.result c.numbers_after_name-numbers.ensures in
+    let named : length (mode_name c.video_mode.result) ≡ length (mode_name (mode_number c.args.block)) = ap (λ (n : ℕ). length (mode_name n)) c.video_mode.ensures.0 in
+    omega (arith, named, whole)
 
 pub put_fields-at-requires : goal.put_fields-at-requires
 put_fields-at-requires c =
-    omega (arith, named c, whole c)
+    let whole : LineLength c.args.number c.args.block c.numbers_after_name-numbers.result = line_length c.args.number c.args.block c.numbers_after_name-numbers.result c.numbers_after_name-numbers.ensures in
+    let named : length (mode_name c.video_mode.result) ≡ length (mode_name (mode_number c.args.block)) = ap (λ (n : ℕ). length (mode_name n)) c.video_mode.ensures.0 in
+    omega (arith, named, whole)
 
 pub put_byte-requires : goal.put_byte-requires
 put_byte-requires c =
-    omega (arith, named c, c.requires.1, name-at c, whole c)
+    let whole : LineLength c.args.number c.args.block c.numbers_after_name-numbers.result = line_length c.args.number c.args.block c.numbers_after_name-numbers.result c.numbers_after_name-numbers.ensures in
+    let name-at : (let a = c.args in c.put_byte-at.result ≡ a.at + length (decimal (16 * a.number)) + length (field (256 - a.block.sc)) + 1) = omega (arith, c.put_decimal-at.ensures.ends, c.put_field-at.ensures.ends, c.put_byte-at.ensures.ends) in
+    let named : length (mode_name c.video_mode.result) ≡ length (mode_name (mode_number c.args.block)) = ap (λ (n : ℕ). length (mode_name n)) c.video_mode.ensures.0 in
+    omega (arith, named, c.requires.1, name-at, whole)
 
 pub returns : goal.returns
 returns c =

@@ -7,6 +7,7 @@ use Rattle.script.proofs.Going.{going_first, going_all, going_room, going_more, 
 use Rattle.script.proofs.steps.do_steps.Goals as goal
 
 -- a whole step lies inside the script
+
 step-inside : (n place : ℕ) → place < n / 3 → 3 * place + 3 ≤ n
 step-inside n place h = omega arith
 
@@ -14,13 +15,12 @@ past_end : (n place : ℕ) → n / 3 ≤ place → n < 3 * place + 3
 past_end n place h = omega arith
 
 -- 0, the number of `Done`, is neither of the other two
+
 neither : (n : ℕ) → (n ≡ 1) ⊎ (n ≡ 2) → n ≡ 0 → ⊥
 neither n (inl one) e = absurd (omega (arith, one, e))
 neither n (inr two) e = absurd (omega (arith, two, e))
 
 -- the buffers fit the lines that the script asks for
-fits : (c : tie.After-begun invariant-loop decreases-loop) → Accepted c.begun-bench.result.state c.args.ram.now (lines_in (steps_of c.args.script.now)) c.args.dots.now c.args.records.now
-fits c = rw c.begun-bench.ensures c.requires
 
 pub loop-place-init : goal.loop-place-init
 loop-place-init c =
@@ -30,11 +30,12 @@ loop-place-init c =
 
 pub do_step-stepped-requires : goal.do_step-stepped-requires
 do_step-stepped-requires c =
+    let fits : Accepted c.begun-bench.result.state c.args.ram.now (lines_in (steps_of c.args.script.now)) c.args.dots.now c.args.records.now = rw c.begun-bench.ensures c.requires in
     let a = c.args in
     let inside = step-inside (length a.script.now) c.loop-place.place c.loop-place-test.true in (
       (inside, c.requires.full, c.loop-place.invariant.formed),
       going_room c.begun-bench.result.state a.ram.now a.script.now a.external.now a.dots.now a.records.now c.loop-place.invariant
-          (fits c) inside,
+          fits inside,
     )
 
 pub shape_of-dots-in_default : goal.shape_of-dots-in_default
@@ -45,10 +46,11 @@ shape_of-records-in_default c = c.records-1.given ∙ c.loop-place.invariant.rec
 
 pub returns-in_default : goal.returns-in_default
 returns-in_default c =
+    let fits : Accepted c.begun-bench.result.state c.args.ram.now (lines_in (steps_of c.args.script.now)) c.args.dots.now c.args.records.now = rw c.begun-bench.ensures c.requires in
     let a = c.args in
     rw (sym (ap (λ (b : Bench). b.state) c.begun-bench.ensures))
     (going_stop c.begun-bench.result.state a.ram.now a.script.now a.external.now a.dots.now a.records.now c.loop-place.invariant
-    (fits c) (step-inside (length a.script.now) c.loop-place.place c.loop-place-test.true)
+    fits (step-inside (length a.script.now) c.loop-place.place c.loop-place-test.true)
     c.do_step-stepped.ensures c.dots-1.given c.records-1.given
     (λ e. neither _ c.in_default.is (rw e)))
 
@@ -57,9 +59,10 @@ overflow_add-place c = omega (arith, c.loop-place-test.true, c.ranges)
 
 pub loop-place-preserved : goal.loop-place-preserved
 loop-place-preserved c =
+    let fits : Accepted c.begun-bench.result.state c.args.ram.now (lines_in (steps_of c.args.script.now)) c.args.dots.now c.args.records.now = rw c.begun-bench.ensures c.requires in
     let a = c.args in
     going_more c.begun-bench.result.state a.ram.now a.script.now a.external.now a.dots.now a.records.now c.loop-place.invariant
-    (fits c) (step-inside (length a.script.now) c.loop-place.place c.loop-place-test.true)
+    fits (step-inside (length a.script.now) c.loop-place.place c.loop-place-test.true)
     c.do_step-stepped.ensures c.dots-1.given c.records-1.given c.enum_told-1.given.1
 
 pub shape_of-dots : goal.shape_of-dots
