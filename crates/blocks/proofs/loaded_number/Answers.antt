@@ -9,12 +9,11 @@ returns-then-scan c = (rw c.if-scan.true c.base_number.ensures.0, c.base_number.
 
 pub returns-then-has_reload : goal.returns-then-has_reload
 unfolding loaded_number
-returns-then-has_reload c =
-    (
-      rw (c.if-scan.false, sym c.has_reload.ensures ∙ c.if-has_reload.true)
-          c.base_number-then-has_reload.ensures.0,
-      c.base_number-then-has_reload.ensures.1,
-    )
+returns-then-has_reload c = (
+  rw (c.if-scan.false, sym c.has_reload.ensures ∙ c.if-has_reload.true)
+      c.base_number-then-has_reload.ensures.0,
+  c.base_number-then-has_reload.ensures.1,
+)
 
 pub returns-then-registers-eq0 : goal.returns-then-registers-eq0
 unfolding loaded_number

@@ -22,7 +22,7 @@ returns-in_default c =
     let m = mode.result in
     c.graphics_cell.ensures
     ∙ rw (← mode.ensures.0) (
-      elim c.in_default.branch [
-        in_default-via-then-mode-lt2 w ↦ low_cell a.block a.first a.second m (omega arith)
-        | in_default-via-else-mode-lt2+else-mode-lt6 w ↦ high_cell a.block a.first a.second m (omega arith) mode.ensures.1
-      ])
+    elim c.in_default.branch [
+      | in_default-via-then-mode-lt2 w ↦ low_cell a.block a.first a.second m (omega arith)
+      | in_default-via-else-mode-lt2+else-mode-lt6 w ↦ high_cell a.block a.first a.second m (omega arith) mode.ensures.1
+    ])

@@ -8,19 +8,17 @@ pub loop-k-init : goal.loop-k-init
 loop-k-init c = (omega arith, wrote_none _ _)
 
 pub put_line-end-requires : goal.put_line-end-requires
-put_line-end-requires c =
-    (
-      omega arith,
-      c.requires.1,
-      line_room c.args.registers c.args.ram.now c.loop-k.k c.args.count c.loop-k-test.true c.loop-k.invariant.1 c.requires.2,
-    )
+put_line-end-requires c = (
+  omega arith,
+  c.requires.1,
+  line_room c.args.registers c.args.ram.now c.loop-k.k c.args.count c.loop-k-test.true c.loop-k.invariant.1 c.requires.2,
+)
 
 pub loop-k-preserved : goal.loop-k-preserved
-loop-k-preserved c =
-    (
-      omega arith,
-      line_more c.args.registers c.args.ram.now c.loop-k.k c.loop-k.invariant.1 c.put_line-end.ensures,
-    )
+loop-k-preserved c = (
+  omega arith,
+  line_more c.args.registers c.args.ram.now c.loop-k.k c.loop-k.invariant.1 c.put_line-end.ensures,
+)
 
 pub shape_of-out : goal.shape_of-out
 shape_of-out c = wrote_kept c.loop-k.invariant.1

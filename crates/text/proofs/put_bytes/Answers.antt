@@ -11,11 +11,10 @@ put_byte-end-requires c =
     turn_room (λ xs. xs) (λ n. n ∷ []) (λ xs ys. refl) (λ n. refl) c.args.bytes.now c.loop-i.i c.loop-i-test.true c.loop-i.invariant.1 c.requires
 
 pub loop-i-preserved : goal.loop-i-preserved
-loop-i-preserved c =
-    (
-      omega arith,
-      turn (λ xs. xs) (λ n. n ∷ []) (λ xs ys. refl) (λ n. refl) c.args.bytes.now c.loop-i.i c.loop-i-test.true c.loop-i.invariant.1 c.put_byte-end.ensures,
-    )
+loop-i-preserved c = (
+  omega arith,
+  turn (λ xs. xs) (λ n. n ∷ []) (λ xs ys. refl) (λ n. refl) c.args.bytes.now c.loop-i.i c.loop-i-test.true c.loop-i.invariant.1 c.put_byte-end.ensures,
+)
 
 pub shape_of-out : goal.shape_of-out
 shape_of-out c = wrote_kept c.loop-i.invariant.1

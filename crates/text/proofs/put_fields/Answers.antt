@@ -13,11 +13,10 @@ put_field-end-requires c =
     turn_room tabbed field tabbed_append one_field c.args.numbers.now c.loop-i.i c.loop-i-test.true c.loop-i.invariant.1 c.requires
 
 pub loop-i-preserved : goal.loop-i-preserved
-loop-i-preserved c =
-    (
-      omega arith,
-      turn tabbed field tabbed_append one_field c.args.numbers.now c.loop-i.i c.loop-i-test.true c.loop-i.invariant.1 c.put_field-end.ensures,
-    )
+loop-i-preserved c = (
+  omega arith,
+  turn tabbed field tabbed_append one_field c.args.numbers.now c.loop-i.i c.loop-i-test.true c.loop-i.invariant.1 c.put_field-end.ensures,
+)
 
 pub shape_of-out : goal.shape_of-out
 shape_of-out c = wrote_kept c.loop-i.invariant.1

@@ -27,8 +27,8 @@ pub returns-in_default : goal.returns-in_default
 returns-in_default c =
     let n = c.args.mode in
     steps_small (mode_numbered n) c.steps_by-in_default.result (
-      c.steps_by-in_default.ensures
-      ∙ elim c.in_default.branch [
-        in_default-via-then-mode-lt1 w ↦ vsync_steps n (omega arith)
-        | in_default-via-else-mode-lt1+else-mode-lt6 w ↦ unused_steps n (omega arith)
-      ])
+    c.steps_by-in_default.ensures
+    ∙ elim c.in_default.branch [
+      | in_default-via-then-mode-lt1 w ↦ vsync_steps n (omega arith)
+      | in_default-via-else-mode-lt1+else-mode-lt6 w ↦ unused_steps n (omega arith)
+    ])

@@ -11,10 +11,10 @@ skip-scan-requires c =
     let begun = c.begin-begun.result in
     -- what has begun is well-formed, and the scanlines stepped together are of one mode line
     let begins : (1 ≤ begun.left) × Formed begun =
-          begins_formed a.registers a.ram.now a.scan begun c.begin-begun.ensures c.requires.1 (omega (arith, c.begin-begun.type_inv)) (omega (arith, c.ranges))
+    begins_formed a.registers a.ram.now a.scan begun c.begin-begun.ensures c.requires.1 (omega (arith, c.begin-begun.type_inv)) (omega (arith, c.ranges))
     in
     let on : Together begun a.lines c.lines_inside-n.result =
-          rw c.lines_inside-n.ensures (together begun a.lines c.requires.2 begins.0)
+    rw c.lines_inside-n.ensures (together begun a.lines c.requires.2 begins.0)
     in
     (omega (arith, begins.1.left, on.within), on.within)
 
@@ -23,10 +23,10 @@ returns c =
     let a = c.args in
     let begun = c.begin-begun.result in
     let begins : (1 ≤ begun.left) × Formed begun =
-          begins_formed a.registers a.ram.now a.scan begun c.begin-begun.ensures c.requires.1 (omega (arith, c.begin-begun.type_inv)) (omega (arith, c.ranges))
+    begins_formed a.registers a.ram.now a.scan begun c.begin-begun.ensures c.requires.1 (omega (arith, c.begin-begun.type_inv)) (omega (arith, c.ranges))
     in
     let on : Together begun a.lines c.lines_inside-n.result =
-          rw c.lines_inside-n.ensures (together begun a.lines c.requires.2 begins.0)
+    rw c.lines_inside-n.ensures (together begun a.lines c.requires.2 begins.0)
     in
     let pointers : SixteenBits begun.at = record { ld1 = omega (arith, c.begin-begun.type_inv); ld2 = omega (arith, c.begin-begun.type_inv) } in
     record {

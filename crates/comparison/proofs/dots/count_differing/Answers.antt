@@ -10,3 +10,11 @@ loop-i-preserved c =
     let a = c.args in
     let more = count_more a.capture.now a.frame.now loop.i c.loop-i-test.true c.requires.1 in
     (omega arith, omega (arith, more, loop.invariant.1, c.differs-count.ensures.0))
+
+pub returns : goal.returns
+returns c =
+    let loop = c.loop-i in
+    let a = c.args in
+    let rest : differing (dots_from loop.i a.capture.now a.frame.now) ≡ 0 =
+    rw (none_left a.capture.now a.frame.now loop.i c.loop-i-test.false) in
+    omega (arith, rest, loop.invariant.1)

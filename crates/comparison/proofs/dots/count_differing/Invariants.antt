@@ -1,5 +1,6 @@
 -- `comparison::dots::count_differing`: after each turn those counted and those that differ among the rest are all.
-use Rattle.std.proofs.Common.{length, zip, ◌+◌, ◌-◌, ◌≡◌, ◌≤◌}
+use mathlib.Core.List.{zip}
+use Rattle.std.proofs.Common.{length, ◌+◌, ◌-◌, ◌≡◌, ◌≤◌}
 use Rattle.comparison.specs.Comparison.{differing}
 use Rattle.comparison.proofs.Pairs.{dots_from}
 use Rattle.comparison.proofs.dots.count_differing.Given as goal

@@ -1,5 +1,6 @@
 -- `comparison::dots::first_differing`: after each turn the dots passed are equal, so the first is among the rest.
-use Rattle.std.proofs.Common.{length, zip, ◌-◌, ◌≡◌}
+use mathlib.Core.List.{zip}
+use Rattle.std.proofs.Common.{length, ◌-◌, ◌≡◌}
 use Rattle.comparison.specs.Comparison.{first_from}
 use Rattle.comparison.proofs.Pairs.{dots_from}
 use Rattle.comparison.proofs.dots.first_differing.Given as goal

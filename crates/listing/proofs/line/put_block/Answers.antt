@@ -1,13 +1,12 @@
 -- `listing::line::put_block`: each piece has room since the whole line has, and the pieces make up the line.
-use Rattle.std.proofs.Common.{ap, arith, decimal, length, ℕ, ◌*◌, ◌+◌, ◌-◌, ◌≡◌}
+use Rattle.std.proofs.Common.{ap, arith, length, ℕ, ◌*◌, ◌+◌, ◌-◌, ◌≡◌}
 use Rattle.nick.specs.Slots.{mode_number}
 use Rattle.nick.specs.Listing.{mode_name}
+use Rattle.text.specs.Decimal.{decimal}
 use Rattle.text.proofs.Writing.{wrote_then}
 use Rattle.text.proofs.Fields.{field}
 use Rattle.listing.proofs.Pieces.{LineLength, line_text, line_length}
 use Rattle.listing.proofs.line.put_block.Goals as goal
-
--- the length of the line by its pieces
 
 pub put_decimal-at-requires : goal.put_decimal-at-requires
 put_decimal-at-requires c =
@@ -36,13 +35,6 @@ put_fields-at-requires c =
     let named : length (mode_name c.video_mode.result) ≡ length (mode_name (mode_number c.args.block)) = ap (λ (n : ℕ). length (mode_name n)) c.video_mode.ensures.0 in
     omega (arith, named, whole)
 
-pub put_byte-requires : goal.put_byte-requires
-put_byte-requires c =
-    let whole : LineLength c.args.number c.args.block c.numbers_after_name-numbers.result = line_length c.args.number c.args.block c.numbers_after_name-numbers.result c.numbers_after_name-numbers.ensures in
-    let name-at : (let a = c.args in c.put_byte-at.result ≡ a.at + length (decimal (16 * a.number)) + length (field (256 - a.block.sc)) + 1) = omega (arith, c.put_decimal-at.ensures.ends, c.put_field-at.ensures.ends, c.put_byte-at.ensures.ends) in
-    let named : length (mode_name c.video_mode.result) ≡ length (mode_name (mode_number c.args.block)) = ap (λ (n : ℕ). length (mode_name n)) c.video_mode.ensures.0 in
-    omega (arith, named, c.requires.1, name-at, whole)
-
 pub returns : goal.returns
 returns c =
     rw (
@@ -56,3 +48,10 @@ returns c =
     (wrote_then c.put_byte-at.ensures c.put_name-at.ensures))
     c.put_fields-at.ensures)
     c.put_byte.ensures)
+
+pub put_byte-requires : goal.put_byte-requires
+put_byte-requires c =
+    let whole : LineLength c.args.number c.args.block c.numbers_after_name-numbers.result = line_length c.args.number c.args.block c.numbers_after_name-numbers.result c.numbers_after_name-numbers.ensures in
+    let name-at : (let a = c.args in c.put_byte-at.result ≡ a.at + length (decimal (16 * a.number)) + length (field (256 - a.block.sc)) + 1) = omega (arith, c.put_decimal-at.ensures.ends, c.put_field-at.ensures.ends, c.put_byte-at.ensures.ends) in
+    let named : length (mode_name c.video_mode.result) ≡ length (mode_name (mode_number c.args.block)) = ap (λ (n : ℕ). length (mode_name n)) c.video_mode.ensures.0 in
+    omega (arith, named, c.requires, name-at, whole)
