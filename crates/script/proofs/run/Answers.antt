@@ -18,14 +18,6 @@ do_steps-stepped-requires c =
     let none : c.refusal_of-refusal.result ≡ 0 = omega arith in
     run_accepted a.state a.ram.now a.script.now a.dots.now a.records.now a.external.now (sym c.refusal_of-refusal.ensures ∙ none)
 
-pub overflow_mul-painted : goal.overflow_mul-painted
-overflow_mul-painted c =
-    let inside : record_bytes * c.do_steps-stepped.result.bench.lines ≤ length c.args.records.now = (let a = c.args in
-    let none : c.refusal_of-refusal.result ≡ 0 = omega arith in
-    records_inside a.state a.ram.now a.script.now a.dots.now a.records.now a.external.now _ c.refusal_of-refusal.ensures none
-    c.do_steps-stepped.ensures) in
-    omega (arith, inside, c.ranges)
-
 pub slice_bounds-fill-count : goal.slice_bounds-fill-count
 slice_bounds-fill-count c =
     let inside : record_bytes * c.do_steps-stepped.result.bench.lines ≤ length c.args.records.now = (let a = c.args in
@@ -48,3 +40,11 @@ returns c =
     let none : c.refusal_of-refusal.result ≡ 0 = omega arith in
     runs_done a.state a.ram.now a.script.now a.dots.now a.records.now a.external.now _ c.refusal_of-refusal.ensures none
     c.do_steps-stepped.ensures _ c.records-2-1.given c.fill-2.ensures _ c.is_requested.ensures
+
+pub overflow_mul-painted : goal.overflow_mul-painted
+overflow_mul-painted c =
+    let inside : record_bytes * c.do_steps-stepped.result.bench.lines ≤ length c.args.records.now = (let a = c.args in
+    let none : c.refusal_of-refusal.result ≡ 0 = omega arith in
+    records_inside a.state a.ram.now a.script.now a.dots.now a.records.now a.external.now _ c.refusal_of-refusal.ensures none
+    c.do_steps-stepped.ensures) in
+    omega (arith, inside)

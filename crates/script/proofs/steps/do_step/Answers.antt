@@ -1,18 +1,10 @@
 -- `script::steps::do_step`: kind 1 is the painting step, and every other leaves the buffers.
-use Rattle.std.proofs.Common.{eq-eqb, false, ne_eqb, ◌*◌, ◌+◌, ◌∙◌, ◌≡◌}
+use Rattle.std.proofs.Common.{false, ne_eqb, ◌*◌, ◌+◌, ◌∙◌, ◌≡◌}
 use Rattle.nick.specs.Numbers.{byte_at}
 use Rattle.script.specs.Steps.{is_paint}
 use Rattle.script.specs.Answers.{step_at}
 use Rattle.script.proofs.StepLaws.{paints_kind, quiet_does}
 use Rattle.script.proofs.steps.do_step.Goals as goal
-
-pub paint_line-requires : goal.paint_line-requires
-paint_line-requires c =
-    let script = c.args.script.now in
-    let at = 3 * c.args.place in
-    let kind = paints_kind (byte_at script at) (byte_at script (at + 1)) (byte_at script (at + 2)) in
-    let pre = c.requires.0 in
-    (pre.1, pre.2, c.requires.1 (kind ∙ eq-eqb (byte_at script at) 1 c.if-kind-eq1.true))
 
 pub returns-then-kind-eq1 : goal.returns-then-kind-eq1
 returns-then-kind-eq1 c = rw c.if-kind-eq1.true c.paint_line.ensures
@@ -24,5 +16,5 @@ returns c =
     let at = 3 * a.place in
     let quiet : is_paint (step_at script a.place) ≡ false =
     paints_kind (byte_at script at) (byte_at script (at + 1)) (byte_at script (at + 2)) ∙ ne_eqb (byte_at script at) 1 c.if-kind-eq1.false in
-    quiet_does (step_at script a.place) a.place a.ram.now a.external.now a.bench a.dots.now a.records.now c.Quiet-step.result
-    quiet c.requires.0.2 c.Quiet-step.ensures
+    quiet_does (step_at script a.place) a.place a.ram.now a.external.now a.bench a.dots.now a.records.now c.quiet_step.result
+    quiet c.requires.place_in_bounds.2 c.quiet_step.ensures

@@ -1,9 +1,9 @@
 -- `script::steps::do_steps`: as long as no step is refused, the steps ahead lead to the same end as all from the beginning.
-use Rattle.std.proofs.Common.{ap, arith, inl, inr, length, sym, ℕ, ◌*◌, ◌+◌, ◌-◌, ◌/◌, ◌<◌, ◌∙◌, ◌≡◌, ◌≤◌, ◌⊎◌}
+use Rattle.std.proofs.Common.{ap, arith, length, sym, ℕ, ◌*◌, ◌+◌, ◌/◌, ◌<◌, ◌∙◌, ◌≤◌}
 use Rattle.nick.specs.Refusals.{Accepted}
 use Rattle.script.specs.Steps.{steps_of, lines_in}
 use Rattle.script.specs.declared.Bench.{Bench}
-use Rattle.script.proofs.Going.{going_first, going_all, going_room, going_more, going_stop}
+use Rattle.script.proofs.Going.{going_first, going_all, going_more, going_stop}
 use Rattle.script.proofs.steps.do_steps.Goals as goal
 
 -- a whole step lies inside the script
@@ -14,56 +14,17 @@ step-inside n place h = omega arith
 past_end : (n place : ℕ) → n / 3 ≤ place → n < 3 * place + 3
 past_end n place h = omega arith
 
--- 0, the number of `Done`, is neither of the other two
-
-neither : (n : ℕ) → (n ≡ 1) ⊎ (n ≡ 2) → n ≡ 0 → ⊥
-neither n (inl one) e = absurd (omega (arith, one, e))
-neither n (inr two) e = absurd (omega (arith, two, e))
-
--- the buffers fit the lines that the script asks for
-
 pub loop-place-init : goal.loop-place-init
 loop-place-init c =
     let a = c.args in
     rw c.begun-bench.ensures
     (going_first a.state a.ram.now a.script.now a.external.now a.dots.now a.records.now c.requires.formed)
 
-pub do_step-stepped-requires : goal.do_step-stepped-requires
-do_step-stepped-requires c =
-    let fits : Accepted c.begun-bench.result.state c.args.ram.now (lines_in (steps_of c.args.script.now)) c.args.dots.now c.args.records.now = rw c.begun-bench.ensures c.requires in
-    let a = c.args in
-    let inside = step-inside (length a.script.now) c.loop-place.place c.loop-place-test.true in (
-      (inside, c.requires.full, c.loop-place.invariant.formed),
-      going_room c.begun-bench.result.state a.ram.now a.script.now a.external.now a.dots.now a.records.now c.loop-place.invariant
-          fits inside,
-    )
-
 pub shape_of-dots-in_default : goal.shape_of-dots-in_default
 shape_of-dots-in_default c = c.dots-1.given ∙ c.loop-place.invariant.dots.size
 
 pub shape_of-records-in_default : goal.shape_of-records-in_default
 shape_of-records-in_default c = c.records-1.given ∙ c.loop-place.invariant.records.size
-
-pub returns-in_default : goal.returns-in_default
-returns-in_default c =
-    let fits : Accepted c.begun-bench.result.state c.args.ram.now (lines_in (steps_of c.args.script.now)) c.args.dots.now c.args.records.now = rw c.begun-bench.ensures c.requires in
-    let a = c.args in
-    rw (sym (ap (λ (b : Bench). b.state) c.begun-bench.ensures))
-    (going_stop c.begun-bench.result.state a.ram.now a.script.now a.external.now a.dots.now a.records.now c.loop-place.invariant
-    fits (step-inside (length a.script.now) c.loop-place.place c.loop-place-test.true)
-    c.do_step-stepped.ensures c.dots-1.given c.records-1.given
-    (λ e. neither _ c.in_default.is (rw e)))
-
-pub overflow_add-place : goal.overflow_add-place
-overflow_add-place c = omega (arith, c.loop-place-test.true, c.ranges)
-
-pub loop-place-preserved : goal.loop-place-preserved
-loop-place-preserved c =
-    let fits : Accepted c.begun-bench.result.state c.args.ram.now (lines_in (steps_of c.args.script.now)) c.args.dots.now c.args.records.now = rw c.begun-bench.ensures c.requires in
-    let a = c.args in
-    going_more c.begun-bench.result.state a.ram.now a.script.now a.external.now a.dots.now a.records.now c.loop-place.invariant
-    fits (step-inside (length a.script.now) c.loop-place.place c.loop-place-test.true)
-    c.do_step-stepped.ensures c.dots-1.given c.records-1.given c.enum_told-1.given.1
 
 pub shape_of-dots : goal.shape_of-dots
 shape_of-dots c = c.loop-place.invariant.dots.size
@@ -77,3 +38,21 @@ returns c =
     rw (sym (ap (λ (b : Bench). b.state) c.begun-bench.ensures))
     (going_all c.begun-bench.result.state a.ram.now a.script.now a.external.now a.dots.now a.records.now c.loop-place.invariant
     (past_end (length a.script.now) c.loop-place.place c.loop-place-test.false))
+
+pub loop-place-preserved : goal.loop-place-preserved
+loop-place-preserved c =
+    let fits : Accepted c.begun-bench.result.state c.args.ram.now (lines_in (steps_of c.args.script.now)) c.args.dots.now c.args.records.now = rw c.begun-bench.ensures c.requires in
+    let a = c.args in
+    going_more c.begun-bench.result.state a.ram.now a.script.now a.external.now a.dots.now a.records.now c.loop-place.invariant
+    fits (step-inside (length a.script.now) c.loop-place.place c.loop-place-test.true)
+    c.do_step-stepped.ensures c.dots-1.given c.records-1.given c.in-Done.is
+
+pub returns-in_default : goal.returns-in_default
+returns-in_default c =
+    let fits : Accepted c.begun-bench.result.state c.args.ram.now (lines_in (steps_of c.args.script.now)) c.args.dots.now c.args.records.now = rw c.begun-bench.ensures c.requires in
+    let a = c.args in
+    rw (sym (ap (λ (b : Bench). b.state) c.begun-bench.ensures))
+    (going_stop c.begun-bench.result.state a.ram.now a.script.now a.external.now a.dots.now a.records.now c.loop-place.invariant
+    fits (step-inside (length a.script.now) c.loop-place.place c.loop-place-test.true)
+    c.do_step-stepped.ensures c.dots-1.given c.records-1.given
+    c.in_default.not-Done)

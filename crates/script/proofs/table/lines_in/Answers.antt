@@ -1,5 +1,5 @@
 -- `script::table::lines_in`: the lines counted so far and those of the steps ahead are all.
-use Rattle.std.proofs.Common.{add-zero, ap, arith, sym, ℕ, ◌+◌, ◌-◌, ◌∙◌}
+use Rattle.std.proofs.Common.{add-zero, ap, arith, sym, ℕ, ◌+◌, ◌∙◌}
 use Rattle.script.specs.Steps.{lines_in}
 use Rattle.script.proofs.Ahead.{ahead_none, lines_ahead}
 use Rattle.script.proofs.table.lines_in.Goals as goal
