@@ -13,7 +13,7 @@ use Rattle.nick.specs.External.{priority_gives, mixed_colour}
 use Rattle.nick.specs.Scanline.{slot_dots, begun_dots, line_dots, ended, next_scan}
 use Rattle.nick.specs.Sync.{line_sync}
 use Rattle.nick.specs.Record.{next_state}
-use Rattle.nick.specs.Refusals.{lines_refusal}
+use Rattle.nick.specs.Refusals.{painting_refusal}
 use Rattle.nick.specs.Painting.{painted, refused_painting, paint}
 use Rattle.nick.specs.Direct.{Answered, shows, direct, direct_colour, direct_names, depends_on}
 use Rattle.nick.specs.declared.State.{State}
@@ -84,7 +84,7 @@ fourth = made_of after_single ram mixed
 -- the second call is refused with number 5, the others are accepted
 pub refusals : map (λ (m : Made). m.refusal) (run fresh_state ram calls) ≡ 0 ∷ 5 ∷ 0 ∷ 0 ∷ []
 unfolding
-    loaded_number decoded block_at loaded continued begun mode_numbered ended next_scan line_sync next_state lines_refusal
+    loaded_number decoded block_at loaded continued begun mode_numbered ended next_scan line_sync next_state painting_refusal
     painted refused_painting paint
 refusals = refl
 
@@ -100,7 +100,7 @@ pub answers :
 unfolding
     loaded_number decoded block_at loaded continued begun mode_numbered font_address colours_numbered graphics_added graphics_byte
     character_added palette_colour priority_gives mixed_colour slot_dots begun_dots line_dots ended next_scan line_sync next_state
-    lines_refusal painted refused_painting paint direct_names
+    painting_refusal painted refused_painting paint direct_names
 answers = (
   demand3 fresh_state ram calls [] first (second ∷ third ∷ fourth ∷ []) 1 40 (lit≤ tt, lit≤ tt) refl
       (record { accepted = refl; first = lit≤ tt; last = lit≤ tt }),

@@ -1,6 +1,6 @@
 -- What the tests of the refusal table say where they do not refuse: one by one, of a direct answer and of a painting; and
 -- when a record is stamped.
-use mathlib.Core.Path.{◌≡◌, refl}
+use mathlib.Core.Path.{◌≡◌, refl, sym, ◌∙◌}
 use mathlib.Core.Bool.{Bool, true, false, ◌||◌, or-true}
 use mathlib.Core.List.{List}
 use Prim.Native.Nat.{ℕ, zero, suc, ◌*◌, ◌<◌, ◌≤◌}
@@ -78,11 +78,19 @@ external_fits five s ram h dots records external e =
     let past-dots = rest_zero (bad_dots h dots) 5 _ (rest_zero five 4 _ past-ram) in
     not_chosen (bad_external h external) 7 0 (rest_zero (bad_records h records) 6 _ past-dots)
 
+-- a painting's table is that of a call that paints lines, with painting's own test of the height
+pub painting_lines :
+    (s : State) (ram : List ℕ) (h : ℕ) (dots records external : List ℕ)
+    → painting_refusal s ram h dots records external ≡ lines_refusal (bad_height h) s ram h dots records external
+unfolding painting_refusal lines_refusal
+painting_lines s ram h dots records external = refl
+
 pub accepted :
     (s : State) (ram : List ℕ) (h : ℕ) (dots records external : List ℕ)
     → painting_refusal s ram h dots records external ≡ 0
     → Accepted s ram h dots records
-accepted s ram h dots records external e = accepted_lines (bad_height h) s ram h dots records external (height_most h) e
+accepted s ram h dots records external e =
+    accepted_lines (bad_height h) s ram h dots records external (height_most h) (sym (painting_lines s ram h dots records external) ∙ e)
 
 -- 12 of n records: given where one of them begins with 255, and not given where none does
 pub stamped_at :

@@ -45,6 +45,16 @@ abbrev pub any_stamped : ℕ → List ℕ → Bool
 any_stamped zero records = false
 any_stamped (suc n) records = any_stamped n records || eqb (byte_at records (record_bytes * n)) 255
 
+-- "3, 4 .. for painting and the direct answer; 5 to 8 for painting"
+unfoldable pub painting_refusal : State → List ℕ → ℕ → List ℕ → List ℕ → List ℕ → ℕ
+painting_refusal s ram h dots records external =
+    cond (ill_formed s.scan) 3
+    (cond (not_full ram) 4
+    (cond (bad_height h) 5
+    (cond (bad_dots h dots) 6
+    (cond (bad_records h records) 7
+    (cond (bad_external h external) 8 0)))))
+
 -- 3 to 8 of a call that paints h lines; `five` is the test of its height, which is not the same for every such call
 unfoldable pub lines_refusal : Bool → State → List ℕ → ℕ → List ℕ → List ℕ → List ℕ → ℕ
 lines_refusal five s ram h dots records external =
@@ -54,10 +64,6 @@ lines_refusal five s ram h dots records external =
     (cond (bad_dots h dots) 6
     (cond (bad_records h records) 7
     (cond (bad_external h external) 8 0)))))
-
--- "3, 4 .. for painting and the direct answer; 5 to 8 for painting"
-abbrev pub painting_refusal : State → List ℕ → ℕ → List ℕ → List ℕ → List ℕ → ℕ
-painting_refusal s ram h dots records external = lines_refusal (bad_height h) s ram h dots records external
 
 -- what the tests say of a painting that is not refused
 pub record Accepted (s : State) (ram : List ℕ) (h : ℕ) (dots records : List ℕ) : Type 0 where

@@ -2,20 +2,21 @@
 // scanlines one after another.
 #![tactic(auto)]
 
-ghost use Rattle.std.specs.Prelude.{◌≡◌, false, ◌+◌, ◌*◌, ◌<◌, ◌≤◌, length};
+mod lines;
+
+ghost use Rattle.std.specs.Prelude.{◌≡◌, ◌+◌, ◌*◌, ◌<◌, ◌≤◌, length};
 ghost use Rattle.nick.specs.Sizes.{record_bytes};
-ghost use Rattle.nick.specs.Refusals.{Formed, Accepted, lines_refusal};
+ghost use Rattle.nick.specs.Refusals.{Formed, Accepted, painting_refusal};
 ghost use Rattle.painting.specs.PaintedFrame.{NextLine, Frame, Paints};
 
+pub use lines::lines_refusal;
 use lists::smaller;
 use nick::{Painted, RECORD_BYTES, State};
 use refusals::{is_bad_external, is_bad_height, is_bad_length, is_ill_formed, is_not_full};
 use scanline::paint_scanline;
 
-// The refusal of a call that paints `height` lines, 0 for none: the tests in the order of their numbers. The call's own test of the
-// height, number 5, is made before.
-pub fn lines_refusal(
-    bad_height: bool,
+// The refusal of a painting, 0 for none: the tests in the order of their numbers.
+fn refusal(
     state: State,
     ram: &[u8],
     height: usize,
@@ -23,8 +24,7 @@ pub fn lines_refusal(
     records: &[u8],
     external: &[u8],
 ) -> u8
-    requires { bad_height ≡ false → height ≤ 1024 }
-    ensures { result ≡ lines_refusal bad_height state ram.now height dots.now records.now external.now }
+    ensures { result ≡ painting_refusal state ram.now height dots.now records.now external.now }
 {
     if is_ill_formed(state.scan) {
         return 3;
@@ -32,7 +32,7 @@ pub fn lines_refusal(
     if is_not_full(ram) {
         return 4;
     }
-    if bad_height {
+    if is_bad_height(height) {
         return 5;
     }
     if is_bad_length(dots.len(), 736, height) {
@@ -107,8 +107,7 @@ pub fn paint_lines(
 ) -> Painted
     ensures { Paints state ram.now height dots.old records.old external.now dots.new records.new result }
 {
-    let bad_height = is_bad_height(height);
-    let refusal = lines_refusal(bad_height, state, ram, height, dots, records, external);
+    let refusal = refusal(state, ram, height, dots, records, external);
     if refusal != 0 {
         lists::fill(records, 255);
         return Painted { refusal, state };

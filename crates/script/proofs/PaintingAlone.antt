@@ -19,7 +19,7 @@ use Rattle.nick.specs.Record.{line_record, next_state, state_after}
 use Rattle.nick.specs.Refusals.{bad_height, lines_refusal, painting_refusal}
 use Rattle.nick.specs.Painting.{external_at, frame_dots, frame_records, painted, refused_painting, paint}
 use Rattle.nick.specs.declared.State.{State}
-use Rattle.nick.proofs.Refusals.{accepted}
+use Rattle.nick.proofs.Refusals.{accepted, painting_lines}
 use Rattle.laws.proofs.Frames.{external_later, dots_add, records_add}
 use Rattle.laws.proofs.StatesAfter.{state_add}
 use Rattle.laws.proofs.Paintings.{accepted_is, refused_is}
@@ -148,6 +148,7 @@ module _ (s : State) (ram script dots records external : List ℕ) (n : ℕ) (so
       whole_refusal s ram script dots records external (ap not (eq-eqb (length script % 3) 0 whole))
       ∙ ap (λ (h : ℕ). lines_refusal (ltb 1024 h) s ram h dots records external) asks
       ∙ ap (λ (five : Bool). lines_refusal five s ram n dots records external) (same_height n some)
+      ∙ sym (painting_lines s ram n dots records external)
 
   begun_lines : (bench_after ram (done (steps_of script)) (begins s)).lines ≡ n
   begun_lines = bench_lines ram (done (steps_of script)) (begins s) ∙ zero-add (lines_in (done (steps_of script))) ∙ ap lines_in does ∙ lines_of n
