@@ -8,8 +8,8 @@ ghost use Rattle.colour.specs.Cell.{palette_number};
 use blocks::{ATTR, CH64, CH128, CH256, LPIXEL, PIXEL};
 use cases::{START, digest_byte};
 use colour::Cell;
-use libc::STDOUT_FILENO;
 use nick::{Block, Pixel, Registers};
+use std::io;
 
 // Attributes and codes, which are fetched before the display byte.
 const FIRST_BYTES: [u8; 6] = [0, 64, 128, 192, 27, 255];
@@ -204,55 +204,54 @@ fn digest_levels() -> u64 {
 }
 
 // A space, the digest and a line feed.
-fn print_digest(d: u64) {
-    io::write_all(STDOUT_FILENO, b" ");
-    io::print_decimal(STDOUT_FILENO, d);
-    io::write_all(STDOUT_FILENO, b"\n");
+fn print_digest(rt: &impl Print, d: u64) -> io::Result<()> {
+    println!(rt; " {d}")
 }
 
 // The line of a video mode in a colour mode.
-fn print_mode(name: &[u8], mode: u8, colours: u8)
+fn print_mode(rt: &impl Print, name: &[u8], mode: u8, colours: u8) -> io::Result<()>
     requires { colours < 4 }
 {
-    io::write_all(STDOUT_FILENO, b"colours ");
-    io::write_all(STDOUT_FILENO, name);
-    io::write_all(STDOUT_FILENO, b" ");
-    io::print_decimal(STDOUT_FILENO, colours as u64);
-    print_digest(digest_mode(mode, colours));
+    rt.print("colours ")?;
+    rt.write_all(name)?;
+    print!(rt; " {colours}")?;
+    print_digest(rt, digest_mode(mode, colours))
 }
 
 // The lines of a video mode.
-fn print_colour_modes(name: &[u8], mode: u8) {
+fn print_colour_modes(rt: &impl Print, name: &[u8], mode: u8) -> io::Result<()> {
     for colours in 0..4 {
-        print_mode(name, mode, colours);
+        print_mode(rt, name, mode, colours)?;
     }
+    Ok(())
 }
 
 // The line of a priority.
-fn print_external(priority: u8)
+fn print_external(rt: &impl Print, priority: u8) -> io::Result<()>
     requires { priority < 4 }
 {
-    io::write_all(STDOUT_FILENO, b"colours external ");
-    io::print_decimal(STDOUT_FILENO, priority as u64);
-    print_digest(digest_external(priority));
+    print!(rt; "colours external {priority}")?;
+    print_digest(rt, digest_external(priority))
 }
 
-fn print_externals() {
+fn print_externals(rt: &impl Print) -> io::Result<()> {
     for priority in 0..4 {
-        print_external(priority);
+        print_external(rt, priority)?;
     }
+    Ok(())
 }
 
-fn main() {
-    print_colour_modes(b"PIXEL", PIXEL);
-    print_colour_modes(b"LPIXEL", LPIXEL);
-    print_colour_modes(b"ATTR", ATTR);
-    print_colour_modes(b"CH256", CH256);
-    print_colour_modes(b"CH128", CH128);
-    print_colour_modes(b"CH64", CH64);
-    io::write_all(STDOUT_FILENO, b"colours palette");
-    print_digest(digest_palettes());
-    print_externals();
-    io::write_all(STDOUT_FILENO, b"colours levels");
-    print_digest(digest_levels());
+fn main(rt: HostRuntime) -> io::Result<()> {
+    let rt = &rt;
+    print_colour_modes(rt, b"PIXEL", PIXEL)?;
+    print_colour_modes(rt, b"LPIXEL", LPIXEL)?;
+    print_colour_modes(rt, b"ATTR", ATTR)?;
+    print_colour_modes(rt, b"CH256", CH256)?;
+    print_colour_modes(rt, b"CH128", CH128)?;
+    print_colour_modes(rt, b"CH64", CH64)?;
+    rt.print("colours palette")?;
+    print_digest(rt, digest_palettes())?;
+    print_externals(rt)?;
+    rt.print("colours levels")?;
+    print_digest(rt, digest_levels())
 }

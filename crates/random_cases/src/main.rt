@@ -15,6 +15,7 @@ ghost use Rattle.std.specs.Prelude.{◌<◌, ◌≤◌};
 ghost use Rattle.random_cases.specs.Lengths.{Whole};
 
 use nick::RECORD_BYTES;
+use std::io;
 
 // A family: each has its module.
 #[derive(Clone, Copy)]
@@ -56,14 +57,14 @@ fn line_of(family: Family) -> u32
 }
 
 // Prints a line under the family's name.
-fn print_line(family: Family, from: u32, to: u32, digest: u64) {
+fn print_line(rt: &impl Print, family: Family, from: u32, to: u32, digest: u64) -> io::Result<()> {
     match family {
-        Family::Writes => cases::print_line(b"writes", from, to, digest),
-        Family::Frames => cases::print_line(b"frames", from, to, digest),
-        Family::Dots => cases::print_line(b"dots", from, to, digest),
-        Family::Listings => cases::print_line(b"listings", from, to, digest),
-        Family::Comparisons => cases::print_line(b"comparisons", from, to, digest),
-        Family::Scripts => cases::print_line(b"scripts", from, to, digest),
+        Family::Writes => cases::print_line(rt, b"writes", from, to, digest),
+        Family::Frames => cases::print_line(rt, b"frames", from, to, digest),
+        Family::Dots => cases::print_line(rt, b"dots", from, to, digest),
+        Family::Listings => cases::print_line(rt, b"listings", from, to, digest),
+        Family::Comparisons => cases::print_line(rt, b"comparisons", from, to, digest),
+        Family::Scripts => cases::print_line(rt, b"scripts", from, to, digest),
     }
 }
 
@@ -133,6 +134,7 @@ fn run_cases(
 
 // Runs a line's cases, and prints it.
 fn run_line(
+    rt: &impl Print,
     family: Family,
     from: u32,
     ram: &mut [u8],
@@ -141,16 +143,17 @@ fn run_line(
     external: &mut [u8],
     out: &mut [u8],
     tally: &mut [u64],
-)
+) -> io::Result<()>
     requires from_bound { from < 1000000 }
     requires whole { Whole ram.old dots.old records.old external.old out.old }
 {
     let digest = run_cases(family, from, ram, dots, records, external, out, tally);
-    print_line(family, from, from + line_of(family) - 1, digest);
+    print_line(rt, family, from, from + line_of(family) - 1, digest)
 }
 
 // Runs all lines.
 fn run_lines(
+    rt: &impl Print,
     family: Family,
     ram: &mut [u8],
     dots: &mut [u8],
@@ -158,55 +161,65 @@ fn run_lines(
     external: &mut [u8],
     out: &mut [u8],
     tally: &mut [u64],
-)
+) -> io::Result<()>
     requires { Whole ram.old dots.old records.old external.old out.old }
 {
     let cases = cases_of(family);
     let line = line_of(family);
     let mut from: u32 = 0;
     while from < cases {
-        run_line(family, from, ram, dots, records, external, out, tally);
+        run_line(rt, family, from, ram, dots, records, external, out, tally)?;
         from += line;
     }
+    Ok(())
 }
 
 // Runs all lines of a family, and prints the last one. Its tally starts at zero, with a place for each refusal up to 19.
 fn run_family(
+    rt: &impl Print,
     family: Family,
     ram: &mut [u8],
     dots: &mut [u8],
     records: &mut [u8],
     external: &mut [u8],
     out: &mut [u8],
-)
+) -> io::Result<()>
     requires { Whole ram.old dots.old records.old external.old out.old }
 {
     let mut tally = [0u64; 20];
-    run_lines(family, ram, dots, records, external, out, &mut tally);
-    cases::print_tally(cases_of(family), &tally);
+    run_lines(rt, family, ram, dots, records, external, out, &mut tally)?;
+    cases::print_tally(rt, cases_of(family), &tally)
 }
 
 // Runs the families in the order of second/compared.txt.
 fn run(
+    rt: &impl Print,
     ram: &mut [u8; 65537],
     dots: &mut [u8; 754400],
     records: &mut [u8; 1026 * RECORD_BYTES],
     external: &mut [u8; 754400],
     out: &mut [u8; 330000],
-) {
-    run_family(Family::Writes, ram, dots, records, external, out);
-    run_family(Family::Frames, ram, dots, records, external, out);
-    run_family(Family::Dots, ram, dots, records, external, out);
-    run_family(Family::Listings, ram, dots, records, external, out);
-    run_family(Family::Comparisons, ram, dots, records, external, out);
-    run_family(Family::Scripts, ram, dots, records, external, out);
+) -> io::Result<()> {
+    run_family(rt, Family::Writes, ram, dots, records, external, out)?;
+    run_family(rt, Family::Frames, ram, dots, records, external, out)?;
+    run_family(rt, Family::Dots, ram, dots, records, external, out)?;
+    run_family(rt, Family::Listings, ram, dots, records, external, out)?;
+    run_family(rt, Family::Comparisons, ram, dots, records, external, out)?;
+    run_family(rt, Family::Scripts, ram, dots, records, external, out)
 }
 
-fn main() {
+fn main(rt: HostRuntime) -> io::Result<()> {
     let mut ram = [0u8; 65537];
     let mut dots = [0u8; 754400];
     let mut records = [0u8; 1026 * RECORD_BYTES];
     let mut external = [0u8; 754400];
     let mut out = [0u8; 330000];
-    run(&mut ram, &mut dots, &mut records, &mut external, &mut out);
+    run(
+        &rt,
+        &mut ram,
+        &mut dots,
+        &mut records,
+        &mut external,
+        &mut out,
+    )
 }

@@ -4,7 +4,7 @@ use Rattle.random_cases.specs.Lengths.{Whole}
 use Rattle.random_cases.proofs.run_lines.Given as goal
 
 abbrev pub invariant-loop-from : goal.invariant-loop-from
-invariant-loop-from l = Whole l.ram l.dots l.records l.external l.out × (length l.tally ≡ length l.initial.tally)
+invariant-loop-from g l = Whole l.ram l.dots l.records l.external l.out × (length l.tally ≡ length l.initial.tally)
 
 abbrev pub decreases-loop-from : goal.decreases-loop-from
-decreases-loop-from l = l.cases - l.from
+decreases-loop-from g l = l.cases - l.from

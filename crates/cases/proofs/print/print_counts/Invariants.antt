@@ -3,7 +3,7 @@ use Rattle.std.proofs.Common.{length, ◌-◌}
 use Rattle.cases.proofs.print.print_counts.Given as goal
 
 abbrev pub invariant-loop-i : goal.invariant-loop-i
-invariant-loop-i l = Unit {0}
+invariant-loop-i g l = Unit {0}
 
 abbrev pub decreases-loop-i : goal.decreases-loop-i
-decreases-loop-i l = length l.tally - l.i
+decreases-loop-i g l = length l.tally - l.i

@@ -1,5 +1,0 @@
--- `random_cases::run_lines` is safe and ends: the buffers keep their lengths, and the cases left fall.
-use Rattle.random_cases.proofs.run_lines.Goals as goal
-
-pub returns : goal.returns
-returns c = tt
