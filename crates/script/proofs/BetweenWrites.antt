@@ -18,7 +18,7 @@ use Rattle.nick.specs.Refusals.{bad_height, bad_external, Accepted}
 use Rattle.nick.specs.Painting.{external_at, painted}
 use Rattle.nick.specs.Direct.{shows, direct_colour, direct_names}
 use Rattle.nick.specs.declared.State.{State}
-use Rattle.nick.proofs.Refusals.{external_fits}
+use Rattle.nick.proofs.Refusals.{external_fits, painting_lines}
 use Rattle.nick.proofs.WellFormed.{not_ill_formed}
 use Rattle.laws.proofs.Paintings.{accepted_is}
 use Rattle.painting.proofs.RefusalTable.{not_refused}
@@ -193,4 +193,4 @@ never_refused s ram script dots records external newDots newRecords before rest 
     let z = not_refused (bad_height 1) b.state ram 1 newDots newRecords part (not_ill_formed b.state.scan sound.formed)
     (ap not (eq-eqb (length ram) 65536 ok.full)) refl (ap not (eq-eqb (length newDots) 736 places))
     (ap not (eq-eqb (length newRecords) record_bytes size)) (part_fits external asked b.lines inside outside) in
-    accepted_is b.state ram 1 newDots newRecords part (sym z) ∙ rw (part_line ram external b.state b.lines)
+    accepted_is b.state ram 1 newDots newRecords part (painting_lines b.state ram 1 newDots newRecords part ∙ sym z) ∙ rw (part_line ram external b.state b.lines)
