@@ -7,7 +7,7 @@ pub loop-i-init : goal.loop-i-init
 loop-i-init c =
     let a = c.args in
     rw (to_z-of_z {w = w32} {z = c.difference-smallest.result} (record { sfits = c.difference-smallest.type_inv }), c.difference-smallest.ensures) (
-      passed_first a.channel a.capture.now a.frame.now c.requires.1 c.requires.0)
+    passed_first a.channel a.capture.now a.frame.now c.requires.1 c.requires.0)
 
 pub loop-i-preserved : goal.loop-i-preserved
 loop-i-preserved c =
@@ -21,8 +21,8 @@ loop-i-preserved c =
       to_z-of_z {w = w32} {z = c.difference-next.result} (record { sfits = c.difference-next.type_inv }),
       c.difference-next.ensures,
     ) (
-      passed_more a.channel a.capture.now a.frame.now c.requires.1 loop.i (to_z w32 loop.smallest-bits) (to_z w32 loop.largest-bits)
-      c.loop-i-test.true loop.invariant)
+    passed_more a.channel a.capture.now a.frame.now c.requires.1 loop.i (to_z w32 loop.smallest-bits) (to_z w32 loop.largest-bits)
+    c.loop-i-test.true loop.invariant)
 
 pub returns : goal.returns
 returns c =
