@@ -1,6 +1,5 @@
 -- `blocks::resume` moves LD1 to the block's start exactly where VRES is clear.
 use Rattle.std.proofs.Common.{sym, ◌∙◌}
-use borrow.Author.Tests.{not-true, not-false}
 use Rattle.nick.specs.Blocks.{continued}
 use Rattle.blocks.proofs.resume.Goals as goal
 

@@ -1,6 +1,6 @@
 -- `direct::cell_from`: each arm of the match is its mode; the modes with one byte are one arm.
 use Rattle.direct.proofs.cell_from.Goals.{in_default-via-then-mode-lt2, in_default-via-else-mode-lt2+else-mode-lt6}
-use Rattle.std.proofs.Common.{arith, sym, ⊎_elim, ◌∙◌}
+use Rattle.std.proofs.Common.{arith, sym, ◌∙◌}
 use Rattle.nick.specs.Slots.{mode_numbered}
 use Rattle.nick.proofs.ModeNumbers.{characters}
 use Rattle.direct.proofs.DotFromBytes.{low_cell, high_cell}

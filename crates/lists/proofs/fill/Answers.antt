@@ -1,5 +1,5 @@
 -- `lists::fill`: after i turns the first i places hold the value, the rest is as it was.
-use Rattle.std.proofs.Common.{arith, length, length-set, replicate, ◌-◌, ◌∙◌, ◌≡◌}
+use Rattle.std.proofs.Common.{arith, length, length-set, replicate, ◌∙◌, ◌≡◌}
 use borrow.Author.Fill.{fill_more}
 use Rattle.lists.proofs.Laws.{front_all}
 use Rattle.lists.proofs.fill.Goals as goal

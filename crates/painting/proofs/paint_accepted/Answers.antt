@@ -1,5 +1,5 @@
 -- `painting::paint_accepted`: after each turn the lines passed are painted, and the rest of both buffers is as it was.
-use Rattle.std.proofs.Common.{rules, ◌-◌}
+use Rattle.std.proofs.Common.{rules}
 use Rattle.painting.proofs.FrameLines.{passed_more, passed_all}
 use Rattle.painting.proofs.paint_accepted.Goals as goal
 

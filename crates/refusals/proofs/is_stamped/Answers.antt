@@ -1,5 +1,5 @@
 -- `refusals::is_stamped`: after each turn no record passed begins with 255.
-use Rattle.std.proofs.Common.{add-one, arith, ne_eqb, ◌*◌, ◌-◌, ◌≡◌}
+use Rattle.std.proofs.Common.{add-one, arith, ne_eqb, ◌*◌, ◌≡◌}
 use Rattle.nick.specs.Sizes.{record_bytes}
 use Rattle.nick.specs.Numbers.{byte_at}
 use Rattle.nick.proofs.Refusals.{stamped_at}

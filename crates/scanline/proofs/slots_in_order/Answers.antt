@@ -1,5 +1,5 @@
 -- `scanline::slots_in_order`: after each turn the slots passed are painted, and the rest of the scanline is as it was.
-use Rattle.std.proofs.Common.{add-one, ap, arith, length, ℕ, ◌-◌, ◌∙◌, ◌≡◌}
+use Rattle.std.proofs.Common.{add-one, ap, arith, length, ℕ, ◌∙◌, ◌≡◌}
 use Rattle.nick.specs.Scanline.{active_at, past_slot, pointers_after, slots_fetched, begun_fetches}
 use Rattle.scanline.specs.PaintedLine.{slots_end}
 use Rattle.scanline.proofs.DotSlots.{slot_more, slots_all, fetched_more}

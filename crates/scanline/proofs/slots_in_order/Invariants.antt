@@ -1,5 +1,5 @@
 -- `scanline::slots_in_order`: after each turn the slots passed are painted, and the rest of the scanline is as it was.
-use Rattle.std.proofs.Common.{drop, length, ◌*◌, ◌++◌, ◌+◌, ◌-◌, ◌≡◌, ◌≤◌}
+use Rattle.std.proofs.Common.{drop, length, ◌*◌, ◌++◌, ◌-◌, ◌≡◌, ◌≤◌}
 use Rattle.nick.specs.Numbers.{byte_at}
 use Rattle.nick.specs.Scanline.{pointers_after, slots_fetched, slots_dots}
 use Rattle.scanline.proofs.slots_in_order.Given as goal

@@ -1,5 +1,5 @@
 -- `text::put_bytes`: after i turns the first i bytes are written.
-use Rattle.std.proofs.Common.{[], arith, refl, ◌-◌, ◌∷◌}
+use Rattle.std.proofs.Common.{[], arith, refl, ◌∷◌}
 use Rattle.text.proofs.Writing.{wrote_none, wrote_kept, turn_room, turn, all_turns}
 use Rattle.text.proofs.put_bytes.Goals as goal
 

@@ -1,5 +1,5 @@
 -- `text::put_fields`: after i turns the first i numbers are written.
-use Rattle.std.proofs.Common.{arith, ◌-◌}
+use Rattle.std.proofs.Common.{arith}
 use Rattle.text.specs.Decimal.{tabbed}
 use Rattle.text.proofs.Writing.{wrote_none, wrote_kept, turn_room, turn, all_turns}
 use Rattle.text.proofs.Fields.{field, one_field, tabbed_append}

@@ -1,6 +1,6 @@
 -- `walk::steps_of`: each arm of the match is the clause of its mode; the character modes are one arm.
 use Rattle.walk.proofs.steps_of.Goals.{in_default-via-then-mode-lt1, in_default-via-else-mode-lt1+else-mode-lt6}
-use Rattle.std.proofs.Common.{arith, ⊎_elim, ◌∙◌}
+use Rattle.std.proofs.Common.{arith, ◌∙◌}
 use Rattle.nick.specs.Slots.{mode_numbered}
 use Rattle.walk.proofs.ModeSteps.{steps_small, vsync_steps, unused_steps}
 use Rattle.nick.proofs.ModeNumbers.{characters}

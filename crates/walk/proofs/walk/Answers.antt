@@ -1,5 +1,5 @@
 -- `walk::walk`: after each turn the scan is the one after the scanlines done.
-use Rattle.std.proofs.Common.{arith, rules, ◌-◌, ◌≡◌}
+use Rattle.std.proofs.Common.{arith, rules, ◌≡◌}
 use Rattle.walk.proofs.Walking.{reached_none, reached_more}
 use Rattle.walk.proofs.walk.Goals as goal
 

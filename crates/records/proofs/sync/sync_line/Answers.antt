@@ -1,5 +1,5 @@
 -- `records::sync::sync_line`: after each turn the level and the count are the rules' over the slots passed.
-use Rattle.std.proofs.Common.{add-one, ap, arith, eq-eqb, ne_eqb, suc, ℕ, ◌-◌, ◌∙◌, ◌≡◌}
+use Rattle.std.proofs.Common.{add-one, ap, arith, eq-eqb, ne_eqb, suc, ℕ, ◌∙◌, ◌≡◌}
 use Rattle.lists.proofs.Tests.{number_le}
 use Rattle.nick.specs.Sync.{sync_at, sync_after, sync_count, line_sync, line_sync_count}
 use Rattle.nick.proofs.ModeNumbers.{syncs_zero}

@@ -1,5 +1,5 @@
 -- `slots::show::show_four`: after k turns the first k pixels are shown.
-use Rattle.std.proofs.Common.{arith, refl, ◌-◌, ◌∙◌}
+use Rattle.std.proofs.Common.{arith, refl, ◌∙◌}
 use Rattle.colour.proofs.Weights.{four_below}
 use Rattle.slots.specs.Shows.{four_shown}
 use Rattle.slots.proofs.Runs.{run_fits, runs_none, runs_more, runs_all}

@@ -1,5 +1,5 @@
 -- `slots::show::show_mixed`: after each turn the dots passed are shown, and the rest is as it was.
-use Rattle.std.proofs.Common.{ap, arith, ◌-◌, ◌∙◌, ◌≡◌}
+use Rattle.std.proofs.Common.{ap, arith, ◌∙◌, ◌≡◌}
 use Rattle.lists.specs.Tab.{tab}
 use Rattle.lists.proofs.Laws.{tab_stored, tab_all}
 use Rattle.slots.specs.Shows.{mixed_dot, mixed_dots}

@@ -1,5 +1,5 @@
 -- `slots::show::show_sixteen`: after k turns the first k pixels are shown.
-use Rattle.std.proofs.Common.{arith, refl, ◌-◌, ◌∙◌}
+use Rattle.std.proofs.Common.{arith, refl, ◌∙◌}
 use Rattle.colour.proofs.Weights.{sixteen_below}
 use Rattle.slots.specs.Shows.{sixteen_shown}
 use Rattle.slots.proofs.Runs.{run_fits, runs_none, runs_more, runs_all}

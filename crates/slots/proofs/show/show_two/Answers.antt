@@ -1,5 +1,5 @@
 -- `slots::show::show_two`: after k turns the first k pixels are shown.
-use Rattle.std.proofs.Common.{arith, refl, ◌-◌, ◌∙◌}
+use Rattle.std.proofs.Common.{arith, refl, ◌∙◌}
 use Rattle.slots.specs.Shows.{two_shown}
 use Rattle.slots.proofs.Runs.{run_fits, runs_none, runs_more, runs_all}
 use Rattle.slots.proofs.show.show_two.Goals as goal

@@ -1,5 +1,5 @@
 -- `text::number::number_of`: the bytes passed are digits, and the value is the number that they spell, at most 65,536.
-use Rattle.std.proofs.Common.{arith, ◌-◌, ◌∙◌}
+use Rattle.std.proofs.Common.{arith, ◌∙◌}
 use Rattle.text.proofs.Reading.{digits_more, value_more, none_empty, none_spoilt, some_number}
 use Rattle.text.proofs.number.number_of.Goals as goal
 
