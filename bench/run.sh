@@ -2,8 +2,8 @@
 # Builds the archive of the proved library and the benchmark over it, and runs it.
 set -eu
 cd "$(dirname "$0")/.."
-rt staticlib nick_c >/dev/null
+(cd crates/nick_c && rt lib >/dev/null)
 out=$(mktemp -d)
 trap 'rm -rf "$out"' EXIT
-rustc --edition 2021 -O bench/main.rs -o "$out/bench" -L target/staticlib -l static=nick_c
+rustc --edition 2021 -O bench/main.rs -o "$out/bench" -L crates/nick_c/out -l static=nick_c
 "$out/bench"

@@ -10,8 +10,8 @@ use lib.ListN.{length, get_or, length-map, get_or-map}
 use lib.Seq.{ext_get_or}
 use lib.Signed.{◌≤ℤ◌}
 use Rattle.nick.specs.Numbers.{byte_at}
-use Rattle.comparison.specs.Comparison.{none, at, differing, first_from, difference, differences, range_of, Found, found_in, found, comparison}
-use Rattle.comparison.specs.Agreement.{Bytes, range_in, AllZero, NoneDiffers, SameNowhere, FirstDiffers, RangeOver, RangesAre, turned, exchanged, SidesExchange}
+use Rattle.comparison.specs.Comparison.{none, differing, first_from, difference, differences, range_of, Found, found_in, found, comparison}
+use Rattle.comparison.specs.Agreement.{Bytes, range_in, AllZero, NoneDiffers, SameNowhere, FirstDiffers, RangeOver, RangesAre, exchanged, SidesExchange}
 use Rattle.comparison.specs.declared.Channel.{Channel}
 use Rattle.comparison.specs.declared.Channel.TheVariants.{Red, Green, Blue}
 use Rattle.comparison.proofs.RefusalTable.{found_is, comparable, clear, not_refused, accepted_is}

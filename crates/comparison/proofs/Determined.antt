@@ -9,7 +9,6 @@ use Rattle.comparison.specs.declared.First.{First}
 use Rattle.comparison.specs.declared.First.TheVariants.{Nowhere, At}
 use Rattle.comparison.specs.declared.Differences.{Differences}
 use Rattle.comparison.specs.declared.Compared.{Compared}
-use Rattle.comparison.specs.declared.Compared.TheVariants as Compared
 
 abbrev side_from : Named → Side
 side_from no_side = Neither

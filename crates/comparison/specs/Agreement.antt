@@ -1,6 +1,6 @@
 -- What a reader of a comparison relies on, of every one that is not refused: when the two sides agree, where they first differ, how
 -- far off their levels are, and that it does not matter which side is called the capture. proofs/Agreement has the proofs.
-use Rattle.std.specs.Prelude.{ℕ, ◌+◌, ◌*◌, ◌<◌, ◌≡◌, ◌⊎◌, ◌↔◌, List, ℤ, pos, neg_ℤ, length, ◌≤ℤ◌}
+use Rattle.std.specs.Prelude.{ℕ, ◌+◌, ◌*◌, ◌<◌, ◌≡◌, ◌⊎◌, ◌↔◌, List, pos, neg_ℤ, length, ◌≤ℤ◌}
 use Rattle.nick.specs.Numbers.{byte_at}
 use Rattle.comparison.specs.Comparison.{none, at, difference, Found, found, comparison}
 use Rattle.comparison.specs.declared.Channel.{Channel}

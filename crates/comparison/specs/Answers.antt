@@ -5,7 +5,6 @@ use Rattle.comparison.specs.declared.First.{First}
 use Rattle.comparison.specs.declared.First.TheVariants.{Nowhere, At}
 use Rattle.comparison.specs.declared.Differences.{Differences}
 use Rattle.comparison.specs.declared.Compared.{Compared}
-use Rattle.comparison.specs.declared.Compared.TheVariants as Compared
 use Rattle.comparison.specs.declared.Refusal.{Refusal}
 use Rattle.comparison.specs.Comparison.{Place, none, at, Found, Named, no_side, capture_side, frame_side, Told, told, Answered, refused, found}
 

@@ -1,5 +1,5 @@
 -- `listing::blocks_listed`: after k blocks without RELOAD, all that are listed are k and those from the next block on.
-use Rattle.std.proofs.Common.{arith, sym, ◌-◌, ◌∙◌}
+use Rattle.std.proofs.Common.{arith, sym, ◌∙◌}
 use Rattle.listing.proofs.BlocksLeft.{after_reload, after_more, after_all, listed_after}
 use Rattle.listing.proofs.blocks_listed.Goals as goal
 

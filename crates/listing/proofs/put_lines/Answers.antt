@@ -1,5 +1,5 @@
 -- `listing::put_lines`: after k turns the lines of the first k blocks are written.
-use Rattle.std.proofs.Common.{arith, ◌-◌, ◌≡◌}
+use Rattle.std.proofs.Common.{arith, ◌≡◌}
 use Rattle.text.proofs.Writing.{wrote_none, wrote_kept}
 use Rattle.listing.proofs.FirstLines.{line_room, line_more}
 use Rattle.listing.proofs.put_lines.Goals as goal

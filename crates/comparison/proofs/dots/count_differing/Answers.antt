@@ -1,5 +1,5 @@
 -- `comparison::dots::count_differing`: after each turn those counted and those that differ among the rest are all.
-use Rattle.std.proofs.Common.{arith, ◌-◌, ◌≡◌}
+use Rattle.std.proofs.Common.{arith, ◌≡◌}
 use Rattle.comparison.specs.Comparison.{differing}
 use Rattle.comparison.proofs.Pairs.{dots_from, none_left, count_more}
 use Rattle.comparison.proofs.dots.count_differing.Goals as goal

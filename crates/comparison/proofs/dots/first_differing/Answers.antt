@@ -1,5 +1,5 @@
 -- `comparison::dots::first_differing`: after each turn the dots passed are equal, so the first is among the rest.
-use Rattle.std.proofs.Common.{sym, ◌-◌, ◌∙◌}
+use Rattle.std.proofs.Common.{sym, ◌∙◌}
 use Rattle.comparison.proofs.Pairs.{none_left, first_here, first_later}
 use Rattle.comparison.proofs.dots.first_differing.Goals as goal
 

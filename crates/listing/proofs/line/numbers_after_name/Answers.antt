@@ -1,5 +1,5 @@
 -- `listing::line::numbers_after_name`: each number is the rule's; the eight colours are the block's.
-use Rattle.std.proofs.Common.{rules, length, ◌≡◌, ap, ℕ, ◌∙◌}
+use Rattle.std.proofs.Common.{rules, length, ◌≡◌, ap, ◌∙◌}
 use Rattle.lists.specs.Number.{number}
 use Rattle.listing.proofs.Pieces.{eight_places, numbers_are}
 use Rattle.listing.proofs.line.numbers_after_name.Goals as goal
