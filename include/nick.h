@@ -1,6 +1,6 @@
 /* nick.h: the NICK video chip of the Enterprise computer, painted dot by dot.
  *
- * The functions are in libnick_c.a (`rt staticlib nick_c`). Each is proved to do what is said of it here; the rules themselves
+ * The functions are in libnick_c.a (`rt lib` in crates/nick_c). Each is proved to do what is said of it here; the rules themselves
  * are the definitions in crates/nick/specs (of comparisons and runs in crates/comparison/specs and crates/script/specs), and the
  * exact promises stand in crates/nick_c/src/lib.rt.
  *

@@ -1,8 +1,8 @@
-/* Paints the guide's vertical sequence and a PIXEL mode line, prints a few records and dots, compares the frame with one that has
- * two dots changed, and runs two scripts. From the repository's root:
+/* Paints the guide's vertical sequence and a PIXEL mode line, prints a few records and dots, and compares the frame with one that has
+ * two dots changed. From the repository's root:
  *
- *   rt staticlib nick_c
- *   cc -std=c11 -Wall -Wextra -Werror -Iinclude examples/c/main.c target/staticlib/libnick_c.a -o nick-example
+ *   (cd crates/nick_c && rt lib)
+ *   cc -std=c11 -Wall -Wextra -Werror -Iinclude examples/c/main.c crates/nick_c/out/libnick_c.a -o nick-example
  */
 #include <inttypes.h>
 #include <stdio.h>
@@ -62,35 +62,9 @@ static void print_comparison(const uint8_t *capture_records)
     printf("\n");
 }
 
-/* Runs a script from the fresh state, with room for the scanlines that it asks for, and prints the first byte of each record. */
-static void print_run(const uint8_t script[][NICK_STEP_BYTES], size_t steps)
-{
-    uint64_t place = 0;
-    size_t height = 0;
-
-    for (size_t i = 0; i < steps; i++)
-        height += script[i][0] == 1;
-    nick_fresh(state, sizeof state);
-    uint32_t told = nick_run(state, sizeof state, ram, sizeof ram, script[0], NICK_STEP_BYTES * steps, dots,
-                             NICK_LINE_DOTS * height, records, NICK_RECORD_BYTES * height, nothing_connected, 0, &place);
-
-    printf("run: refusal %d, latch %d, enable %d, request %d", (int)(told & 255), (int)(told >> 8 & 1), (int)(told >> 9 & 1),
-           (int)(told >> 10 & 1));
-    if (told >> 11 & 1)
-        printf(", stopped at step %" PRIu64, place);
-    printf("; records begin with");
-    for (size_t y = 0; y < height; y++)
-        printf(" %d", records[NICK_RECORD_BYTES * y]);
-    printf("\n");
-}
-
 int main(void)
 {
     static const size_t shown[] = {0, 3, 4, 5, 6, 25, 26};
-    /* Enable interrupts, write BORDER, paint two scanlines. */
-    static const uint8_t finishes[][NICK_STEP_BYTES] = {{2, 0, 1}, {0, 129, 146}, {1}, {1}};
-    /* Paint a scanline, reset the latch, write a reserved port, paint another scanline. */
-    static const uint8_t stops[][NICK_STEP_BYTES] = {{1}, {3}, {0, 132, 7}, {1}};
     uint8_t before[NICK_STATE_BYTES];
 
     memcpy(ram, table, sizeof table);
@@ -128,10 +102,5 @@ int main(void)
     if ((uint32_t)listed != 0)
         return 1;
     fwrite(text, 1, listed >> 32, stdout);
-
-    /* VINT in the first block: its first scanline has the edge of VIRQ. */
-    ram[1] = 128;
-    print_run(finishes, sizeof finishes / sizeof finishes[0]);
-    print_run(stops, sizeof stops / sizeof stops[0]);
     return 0;
 }

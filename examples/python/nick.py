@@ -1,8 +1,8 @@
-"""The NICK library from Python: paints the guide's vertical sequence, prints what its records say, compares it with a frame
-that has a dot changed, and runs scripts. From the repository's root:
+"""The NICK library from Python: paints the guide's vertical sequence, prints what its records say, and compares it with a frame
+that has a dot changed. From the repository's root:
 
-    rt staticlib nick_c
-    cc -shared -Wl,--whole-archive target/staticlib/libnick_c.a -Wl,--no-whole-archive -o libnick.so
+    (cd crates/nick_c && rt lib)
+    cc -shared -Wl,--whole-archive crates/nick_c/out/libnick_c.a -Wl,--no-whole-archive -o libnick.so
     python3 examples/python/nick.py ./libnick.so
 
 include/nick.h says what each function does.
@@ -109,19 +109,6 @@ class Nick:
         return Run(dots, records, latch, enable, request, (refusal, place.value) if at_step else None)
 
 
-def print_run(run):
-    """How a run ended, and the first byte of each record."""
-    print(f"run: latch {run.latch}, enable {run.enable}, request {run.request}, stopped {run.stopped};", end=" ")
-    print("records begin with", list(run.records[::RECORD_BYTES]))
-
-
-def print_refused(call, *arguments):
-    try:
-        call(*arguments)
-    except ValueError as refused:
-        print(refused)
-
-
 def main():
     nick = Nick(sys.argv[1])
     ram = bytearray(65536)
@@ -141,13 +128,10 @@ def main():
     print("compared:", nick.compare(7, capture, records, dots, records))
     print("exchanged:", nick.compare(7, dots, records, capture, records))
     print("with itself:", nick.compare(7, dots, records, dots, records))
-    ram[1] = 128  # VINT: the block's first scanline has the edge of VIRQ
-    enable, paint, reset, reserved = bytes([2, 0, 1]), bytes([1, 0, 0]), bytes([3, 0, 0]), bytes([0, 132, 7])
-    bench = Nick(sys.argv[1])
-    print_run(bench.run(ram, bytearray(enable + paint + paint)))
-    print_run(bench.run(ram, bytearray(paint + reset + reserved + paint)))
-    print_refused(bench.run, ram, bytearray(paint + enable[:1]))
-    print_refused(nick.write, 144, 0)
+    try:
+        nick.write(144, 0)
+    except ValueError as refused:
+        print(refused)
 
 
 if __name__ == "__main__":

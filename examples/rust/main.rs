@@ -1,8 +1,8 @@
 //! Compares the proved library with the second program, call by call, on random cases of fresh seeds. From the repository's
 //! root:
 //!
-//!   rt staticlib nick_c
-//!   rustc --edition 2021 -O -D warnings -L target/staticlib -l static=nick_c examples/rust/main.rs -o compare
+//!   (cd crates/nick_c && rt lib)
+//!   rustc --edition 2021 -O -D warnings -L crates/nick_c/out -l static=nick_c examples/rust/main.rs -o compare
 //!   ./compare CASES [SEED]
 //!
 //! It makes CASES cases of each family that second/README.md describes. Without SEED, the seed comes from the clock; it is

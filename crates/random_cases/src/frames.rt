@@ -5,7 +5,7 @@ ghost use Rattle.std.specs.Prelude.{◌≡◌, ◌*◌, length};
 ghost use Rattle.nick.specs.Sizes.{record_bytes};
 ghost use Rattle.random_cases.specs.Lengths.{Lent};
 
-use crate::lent::{digest_after, digest_before, draw_external, fill_painted};
+use crate::repeated::draw_repeated;
 use call::{Call, call_of};
 use nick::Painted;
 
@@ -22,7 +22,7 @@ fn paint(call: Call, ram: &[u8], dots: &mut [u8], records: &mut [u8], external: 
 fn digest_call(call: Call, digest: u64, ram: &[u8], external: &[u8]) -> u64 {
     let called = cases::digest_byte(digest, lists::bit(call.single));
     let asked = cases::digest_number(called, call.height as u64);
-    digest_before(asked, call.state, ram, external)
+    cases::digest_bytes(cases::digest_given(asked, call.state, ram), external)
 }
 
 // Fills the buffers, paints, and digests what was given, answered and left in them.
@@ -35,22 +35,25 @@ fn run_call(
     external: &[u8],
     tally: &mut [u64],
 ) -> u64 {
-    fill_painted(dots, records);
+    lists::fill(dots, 170);
+    lists::fill(records, 85);
     let given = digest_call(call, digest, ram, external);
     let painted = paint(call, ram, dots, records, external);
     cases::count(tally, painted.refusal);
     let answered = cases::digest_byte(given, painted.refusal);
-    digest_after(answered, painted.state, dots, records)
+    let stated = cases::digest_state(answered, painted.state);
+    cases::digest_bytes(cases::digest_bytes(stated, dots), records)
 }
 
 // Draws RAM and external input of a case, and answers its call.
 fn draw_call(case: u32, ram: &mut [u8], external: &mut [u8]) -> Call
     requires { (length ram.old ≡ 65537) × (length external.old ≡ 754400) }
-    ensures { Lent result.parts }
+    ensures { Lent result }
 {
     let drawn = cases::begin_with_ram(1, case, ram);
     let call = call_of(drawn.head);
-    draw_external(drawn.source, call.parts, external);
+    let end = call.external;
+    draw_repeated(drawn.source, &mut external[0..end]);
     call
 }
 
@@ -68,11 +71,10 @@ pub fn run_case(
     requires records_len { (length records.old ≡ record_bytes * 1026) × (length external.old ≡ 754400) }
 {
     let call = draw_call(case, ram, external);
-    let parts = call.parts;
-    let ram_end = parts.ram;
-    let dots_end = parts.dots;
-    let records_end = parts.records;
-    let external_end = parts.external;
+    let ram_end = call.ram;
+    let dots_end = call.dots;
+    let records_end = call.records;
+    let external_end = call.external;
     run_call(
         call,
         digest,

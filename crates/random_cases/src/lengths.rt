@@ -1,4 +1,4 @@
-// Heights and lengths of the buffers of a painting, a comparison or a script, right or wrong by the faults of its case.
+// Heights and lengths of the buffers of a painting or a comparison, right or wrong by the faults of its case.
 ghost use Rattle.std.specs.Prelude.{◌+◌, ◌*◌, ◌≤◌};
 ghost use Rattle.nick.specs.Sizes.{record_bytes};
 ghost use Rattle.cases.specs.Head.{Drawn};
@@ -18,7 +18,7 @@ pub struct Heights {
 }
 
 // A byte as a length's part.
-pub fn wide(byte: u8) -> usize
+fn wide(byte: u8) -> usize
     ensures { result ≤ 255 }
 {
     byte as usize

@@ -5,10 +5,8 @@ mod comparisons;
 mod dots;
 mod frames;
 mod lengths;
-mod lent;
 mod listings;
 mod repeated;
-mod scripts;
 mod writes;
 
 ghost use Rattle.std.specs.Prelude.{◌<◌, ◌≤◌};
@@ -25,7 +23,6 @@ enum Family {
     Dots,
     Listings,
     Comparisons,
-    Scripts,
 }
 
 // How many cases a family has.
@@ -38,7 +35,6 @@ fn cases_of(family: Family) -> u32
         Family::Dots => 1000,
         Family::Listings => 400,
         Family::Comparisons => 1000,
-        Family::Scripts => 1000,
     }
 }
 
@@ -52,7 +48,6 @@ fn line_of(family: Family) -> u32
         Family::Dots => 25,
         Family::Listings => 10,
         Family::Comparisons => 25,
-        Family::Scripts => 25,
     }
 }
 
@@ -64,12 +59,10 @@ fn print_line(rt: &impl Print, family: Family, from: u32, to: u32, digest: u64) 
         Family::Dots => cases::print_line(rt, b"dots", from, to, digest),
         Family::Listings => cases::print_line(rt, b"listings", from, to, digest),
         Family::Comparisons => cases::print_line(rt, b"comparisons", from, to, digest),
-        Family::Scripts => cases::print_line(rt, b"scripts", from, to, digest),
     }
 }
 
-// The digest after one case, run by the module of its family. A comparison has its frame in the buffers of external input and output,
-// and a script has its bytes in that of output.
+// The digest after one case, run by the module of its family. A comparison has its frame in the buffers of external input and output.
 fn run_case(
     family: Family,
     case: u32,
@@ -91,9 +84,6 @@ fn run_case(
         Family::Comparisons => {
             let frame_records = &mut out[0..1026 * RECORD_BYTES];
             comparisons::run_case(case, digest, dots, records, external, frame_records, tally)
-        }
-        Family::Scripts => {
-            scripts::run_case(case, digest, ram, dots, records, external, out, tally)
         }
     }
 }
@@ -204,8 +194,7 @@ fn run(
     run_family(rt, Family::Frames, ram, dots, records, external, out)?;
     run_family(rt, Family::Dots, ram, dots, records, external, out)?;
     run_family(rt, Family::Listings, ram, dots, records, external, out)?;
-    run_family(rt, Family::Comparisons, ram, dots, records, external, out)?;
-    run_family(rt, Family::Scripts, ram, dots, records, external, out)
+    run_family(rt, Family::Comparisons, ram, dots, records, external, out)
 }
 
 fn main(rt: HostRuntime) -> io::Result<()> {

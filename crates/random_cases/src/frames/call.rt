@@ -3,18 +3,20 @@ ghost use Rattle.std.specs.Prelude.{◌≤◌};
 ghost use Rattle.cases.specs.Head.{Drawn};
 ghost use Rattle.random_cases.specs.Lengths.{Lent};
 
-use crate::lengths::{Heights, heights_of};
-use crate::lent::{Parts, parts_of};
+use crate::lengths::{Heights, dots_length, heights_of, records_length, wrong_dots};
 use cases::Head;
 use nick::State;
 
-// A call: of one line or of `height` lines, from a state, with these parts of the buffers.
+// A call: of one line or of `height` lines, from a state, with buffers of these lengths.
 #[derive(Clone, Copy)]
 pub struct Call {
     pub single: bool,
     pub state: State,
     pub height: usize,
-    pub parts: Parts,
+    pub ram: usize,
+    pub dots: usize,
+    pub records: usize,
+    pub external: usize,
 }
 
 // Both heights: a single line has 1, whatever the faults.
@@ -28,18 +30,33 @@ fn heights_of_call(head: Head) -> Heights
     heights_of(head)
 }
 
+// The length of external input: none unless bit 3 of G is set; wrong by fault 6.
+fn external_length(head: Head, lent: usize) -> usize
+    requires { lent ≤ 1025 }
+    ensures { result ≤ 754400 }
+{
+    if cases::has_fault(head, 6) {
+        let t = head.t;
+        return wrong_dots(t[9], lent, 1);
+    }
+    if head.g / 8 % 2 == 1 { 736 * lent } else { 0 }
+}
+
 // The call of a case, with its faults.
 pub fn call_of(head: Head) -> Call
     requires { Drawn head }
-    ensures { Lent result.parts }
+    ensures { Lent result }
 {
     let state = cases::faulty_state(head);
     let heights = heights_of_call(head);
-    let parts = parts_of(head, heights.lent);
+    let t = head.t;
     Call {
         single: head.g % 8 == 0,
         state,
         height: heights.asked,
-        parts,
+        ram: cases::ram_length(head),
+        dots: dots_length(head, 4, t[7], heights.lent),
+        records: records_length(head, 5, t[8], heights.lent),
+        external: external_length(head, heights.lent),
     }
 }

@@ -3,7 +3,7 @@ mod steps;
 
 ghost use Rattle.std.specs.Prelude.{◌≡◌, ◌≤◌, length};
 ghost use Rattle.cases.specs.Head.{Drawn};
-ghost use Rattle.random_cases.specs.Lengths.{Whole, Lent};
+ghost use Rattle.random_scripts.specs.Lengths.{Whole, Lent};
 
 use crate::lent::{Parts, digest_after, digest_before, draw_external, fill_painted, parts_of};
 use cases::{Case, Head};

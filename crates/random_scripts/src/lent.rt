@@ -1,6 +1,6 @@
-// The buffers that a painting or a script is lent: their lengths, and the digest of what they hold before the call and after it.
+// The buffers that a script is lent beside its bytes: their lengths, and the digest of what they hold before the call and after it.
 ghost use Rattle.std.specs.Prelude.{◌≡◌, ◌≤◌, length};
-ghost use Rattle.random_cases.specs.Lengths.{Lent};
+ghost use Rattle.random_scripts.specs.Lengths.{Lent};
 
 use crate::lengths::{dots_length, records_length, wrong_dots};
 use crate::repeated::draw_repeated;
