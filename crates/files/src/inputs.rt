@@ -2,6 +2,8 @@
 ghost use Rattle.std.specs.Prelude.{◌≡◌, ◌%◌, ◌≤◌, ◌&&◌, eqb, length};
 
 use crate::pair::{check_read, read_pair};
+use std::env::Env;
+use std::rt::Files;
 
 // The arguments that every program begins with.
 pub const RAM: usize = 1;
@@ -17,19 +19,24 @@ pub struct Inputs {
 }
 
 // Whether RAM and WRITES can be used: both are read, and WRITES is pairs of bytes. Prints why where not.
-fn check_inputs(unread: usize, writes: usize, usage: &[u8]) -> bool
+fn check_inputs(rt: &(impl Env + Print), unread: usize, writes: usize, usage: &[u8]) -> bool
     ensures { result ≡ (eqb unread 0 && eqb (writes % 2) 0) }
 {
-    check_read(unread, writes % 2 == 0, usage)
+    check_read(rt, unread, writes % 2 == 0, usage)
 }
 
 // Reads RAM and WRITES, and prints why they cannot be used where they cannot.
-pub fn read_inputs(ram: &mut [u8], writes: &mut [u8], usage: &[u8]) -> Inputs
+pub fn read_inputs(
+    rt: &(impl Files + Env + Print),
+    ram: &mut [u8],
+    writes: &mut [u8],
+    usage: &[u8],
+) -> Inputs
     ensures { (result.ram ≤ length ram.old) × (result.writes ≤ length writes.old) }
 {
-    let read = read_pair(RAM, WRITES, ram, writes);
+    let read = read_pair(rt, RAM, WRITES, ram, writes);
     Inputs {
-        is_read: check_inputs(read.unread, read.second, usage),
+        is_read: check_inputs(rt, read.unread, read.second, usage),
         ram: read.first,
         writes: read.second,
     }

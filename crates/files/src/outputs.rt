@@ -3,10 +3,12 @@
 ghost use Rattle.std.specs.Prelude.{◌≡◌, ◌≤◌, cond};
 ghost use Rattle.files.specs.Outputs.{is_clash, is_input, lines_stamped, stamps};
 
-use crate::argument::{is_given, write_argument, write_repeated};
+use crate::argument::{argument_count, is_given, write_argument, write_repeated};
 use crate::print::{print_unwritten, print_usage};
 use crate::same::is_same_file;
 use nick::RECORD_BYTES;
+use std::env::Env;
+use std::rt::Files;
 use text::Number;
 
 // Which arguments name the files: RAM; what is done to the chip, register writes or a script; the outputs; and EXTERNAL, which is the
@@ -53,22 +55,22 @@ fn stamp(records: &mut [u8])
 
 // Writes RECORDS with the lines asked for stamped, line by line, so that little room is needed. Answers whether all are written; if
 // not, it prints so.
-pub fn stamp_lines(places: Places, asked: Number) -> bool {
+pub fn stamp_lines(rt: &(impl Files + Env + Print), places: Places, asked: Number) -> bool {
     let mut record = [0u8; RECORD_BYTES];
     stamp(&mut record);
-    if write_repeated(places.records, &record, lines_stamped(asked)) {
+    if write_repeated(rt, places.records, &record, lines_stamped(asked)) {
         return true;
     }
-    print_unwritten(places.records);
+    print_unwritten(rt, places.records);
     false
 }
 
 // Compares an output with each input.
-fn inputs_named(places: Places, output: usize) -> Named {
+fn inputs_named(rt: &(impl Files + Env), places: Places, output: usize) -> Named {
     Named {
-        ram: is_same_file(places.ram, output),
-        commands: is_same_file(places.commands, output),
-        external: is_given(places.external) && is_same_file(places.external, output),
+        ram: is_same_file(rt, places.ram, output),
+        commands: is_same_file(rt, places.commands, output),
+        external: is_given(rt, places.external) && is_same_file(rt, places.external, output),
     }
 }
 
@@ -90,49 +92,54 @@ fn is_clash(dots: Named, records: Named) -> bool
 }
 
 // Stamps RECORDS for the lines asked for, unless an output is an input. Answers whether the run goes on; if not, it prints why.
-pub fn begin(places: Places, asked: Number, usage: &[u8]) -> bool {
-    let count = os::arg_count();
+pub fn begin(rt: &(impl Files + Env + Print), places: Places, asked: Number, usage: &[u8]) -> bool {
+    let count = argument_count(rt);
     if count <= places.records {
-        print_usage(usage);
+        print_usage(rt, usage);
         return false;
     }
     if is_clash(
-        inputs_named(places, places.dots),
-        inputs_named(places, places.records),
+        inputs_named(rt, places, places.dots),
+        inputs_named(rt, places, places.records),
     ) {
-        print_usage(usage);
+        print_usage(rt, usage);
         return false;
     }
-    if !stamp_lines(places, asked) {
+    if !stamp_lines(rt, places, asked) {
         return false;
     }
-    if places.external < count - 1 || is_same_file(places.dots, places.records) {
-        print_usage(usage);
+    if places.external < count - 1 || is_same_file(rt, places.dots, places.records) {
+        print_usage(rt, usage);
         return false;
     }
     true
 }
 
 // Writes RECORDS; where that fails, it is stamped again.
-fn write_records(places: Places, records: &mut [u8]) -> bool
+fn write_records(rt: &(impl Files + Env), places: Places, records: &mut [u8]) -> bool
     ensures { records.new ≡ cond result records.old (stamps records.old) }
 {
-    if write_argument(places.records, records) {
+    if write_argument(rt, places.records, records) {
         return true;
     }
     stamp(records);
-    write_argument(places.records, records);
+    write_argument(rt, places.records, records);
     false
 }
 
 // Writes DOTS, then RECORDS, and answers whether both are written; if not, it prints which is not.
-pub fn write_outputs(places: Places, dots: &[u8], records: &mut [u8]) -> bool {
-    if !write_argument(places.dots, dots) {
-        print_unwritten(places.dots);
+pub fn write_outputs(
+    rt: &(impl Files + Env + Print),
+    places: Places,
+    dots: &[u8],
+    records: &mut [u8],
+) -> bool {
+    if !write_argument(rt, places.dots, dots) {
+        print_unwritten(rt, places.dots);
         return false;
     }
-    if !write_records(places, records) {
-        print_unwritten(places.records);
+    if !write_records(rt, places, records) {
+        print_unwritten(rt, places.records);
         return false;
     }
     true

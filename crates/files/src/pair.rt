@@ -3,6 +3,8 @@ ghost use Rattle.std.specs.Prelude.{◌≡◌, ◌≤◌, cond, ◌&&◌, eqb, l
 
 use crate::argument::read_argument;
 use crate::print::{print_unreadable, print_usage};
+use std::env::Env;
+use std::rt::Files;
 
 // The first argument that could not be read, 0 for none, and how much was read of each file.
 #[derive(Clone, Copy)]
@@ -23,11 +25,17 @@ fn first_unread(i: usize, j: usize, is_first_read: bool, is_second_read: bool) -
 }
 
 // Reads the files that arguments i and j name.
-pub fn read_pair(i: usize, j: usize, first: &mut [u8], second: &mut [u8]) -> Pair
+pub fn read_pair(
+    rt: &(impl Files + Env),
+    i: usize,
+    j: usize,
+    first: &mut [u8],
+    second: &mut [u8],
+) -> Pair
     ensures { (result.first ≤ length first.old) × (result.second ≤ length second.old) }
 {
-    let of_first = read_argument(i, first);
-    let of_second = read_argument(j, second);
+    let of_first = read_argument(rt, i, first);
+    let of_second = read_argument(rt, j, second);
     Pair {
         unread: first_unread(i, j, of_first.is_read, of_second.is_read),
         first: of_first.length,
@@ -36,16 +44,16 @@ pub fn read_pair(i: usize, j: usize, first: &mut [u8], second: &mut [u8]) -> Pai
 }
 
 // Prints which file could not be read, or how the program is used where they are of no use to it; answers whether neither.
-pub fn check_read(unread: usize, is_usable: bool, usage: &[u8]) -> bool
+pub fn check_read(rt: &(impl Env + Print), unread: usize, is_usable: bool, usage: &[u8]) -> bool
     ensures { result ≡ (eqb unread 0 && is_usable) }
 {
     if unread != 0 {
-        print_unreadable(unread);
+        print_unreadable(rt, unread);
         return false;
     }
     if is_usable {
         return true;
     }
-    print_usage(usage);
+    print_usage(rt, usage);
     false
 }

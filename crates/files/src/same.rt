@@ -1,11 +1,13 @@
 // Whether two arguments name one file.
 ghost use Rattle.std.specs.Prelude.{◌≡◌, false};
-ghost use Rattle.libc.specs.Io.{Ended};
 ghost use Rattle.files.specs.Same.{is_one};
 
-use crate::argument::is_same_argument;
-use libc::types::{stat, timespec};
-use libc::{F_OK, PATH_MAX};
+use crate::argument::{PATH_MAX, copy_argument, is_same_argument};
+use std::env::Env;
+use std::fs;
+use std::fs::Metadata;
+use std::os::unix::fs::MetadataExt;
+use std::rt::Files;
 
 // What tells a file from every other: the device that it is on, and its number there.
 #[derive(Clone, Copy)]
@@ -26,67 +28,35 @@ fn missing() -> File
     }
 }
 
-// Room for what the operating system tells of a file.
-fn blank() -> stat {
-    let zero = timespec {
-        tv_sec: 0,
-        tv_nsec: 0,
-    };
-    stat {
-        st_dev: 0,
-        st_ino: 0,
-        st_nlink: 0,
-        st_mode: 0,
-        st_uid: 0,
-        st_gid: 0,
-        __pad: 0,
-        st_rdev: 0,
-        st_size: 0,
-        st_blksize: 0,
-        st_blocks: 0,
-        st_atim: zero,
-        st_mtim: zero,
-        st_ctim: zero,
-        __unused: [0; 3],
-    }
-}
-
-// What the operating system tells of the file at a path.
-fn told_of(path: &[u8; PATH_MAX], room: stat) -> stat
-    requires { Ended path.now }
-{
-    let mut told = room;
-    libc::stat(path, &mut told);
-    told
+// What the operating system tells of the file at a path. Of a path that is not UTF-8 it is not asked.
+fn told_of(rt: &impl Files, path: &[u8]) -> Option<Metadata> {
+    let name = str::from_utf8(path).ok()?;
+    fs::metadata(rt, name).ok()
 }
 
 // The file at a path.
-fn file_at(path: &[u8; PATH_MAX]) -> File
-    requires { Ended path.now }
-{
-    if libc::access(path, F_OK) != 0 {
-        return missing();
-    }
-    let told = told_of(path, blank());
-    File {
-        is_found: true,
-        device: told.st_dev,
-        number: told.st_ino,
+fn file_at(rt: &impl Files, path: &[u8]) -> File {
+    match told_of(rt, path) {
+        Some(told) => File {
+            is_found: true,
+            device: told.dev(),
+            number: told.ino(),
+        },
+        None => missing(),
     }
 }
 
-// The file that argument i names. An argument that is empty, or of 4,096 bytes or more, names none.
-fn file_of(i: usize) -> File {
-    let mut path = io::buffer();
-    let n = os::arg(i, &mut path);
+// The file that argument i names. An argument that is empty, of 4,096 bytes or more, or not UTF-8 names none.
+fn file_of(rt: &(impl Files + Env), i: usize) -> File {
+    let mut path = [0u8; PATH_MAX];
+    let n = copy_argument(rt, i, &mut path);
     if n == 0 {
         return missing();
     }
     if n == PATH_MAX {
         return missing();
     }
-    path[4095] = 0;
-    file_at(&path)
+    file_at(rt, &path[..n])
 }
 
 // Whether two files are one.
@@ -102,7 +72,18 @@ fn is_one(a: File, b: File) -> bool
     a.is_found && b.is_found
 }
 
-// Whether two arguments name one file, by the same text or, where the file is there, by two names, links among them.
-pub fn is_same_file(i: usize, j: usize) -> bool {
-    is_same_argument(i, j) || is_one(file_of(i), file_of(j))
+// Whether argument i is a name that is not UTF-8, of which the operating system is not asked.
+fn is_unknown(rt: &impl Env, i: usize) -> bool {
+    let mut path = [0u8; PATH_MAX];
+    let n = copy_argument(rt, i, &mut path);
+    n < PATH_MAX && str::from_utf8(&path[..n]).is_err()
+}
+
+// Whether two arguments name one file, by the same text or, where the file is there, by two names, links among them. A name that
+// is not UTF-8 may be any file's, so it counts as one of the other's.
+pub fn is_same_file(rt: &(impl Files + Env), i: usize, j: usize) -> bool {
+    is_same_argument(rt, i, j)
+        || is_unknown(rt, i)
+        || is_unknown(rt, j)
+        || is_one(file_of(rt, i), file_of(rt, j))
 }

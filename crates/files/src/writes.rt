@@ -5,6 +5,7 @@ ghost use Rattle.files.specs.Writes.{given as Writes·given, written_next, writt
 use nick::Written;
 
 // The refusal that is given where two calls gave these: the smaller number, 0 standing for none.
+#[tactic(auto, unfolding(crate::specs::Writes::given))]
 fn given(a: u8, b: u8) -> u8
     ensures { result ≡ Writes·given a b }
 {
@@ -18,6 +19,7 @@ fn given(a: u8, b: u8) -> u8
 }
 
 // One write more.
+#[tactic(auto, unfolding(crate::specs::Writes::written_next))]
 fn write_next(written: Written, port: u8, value: u8) -> Written
     ensures { result ≡ written_next written port value }
 {

@@ -12,6 +12,8 @@ use comparison::Compared;
 use files::Pair;
 use nick::RECORD_BYTES;
 use print::{print_differences, print_refused};
+use std::env::Env;
+use std::rt::Files;
 use text::Number;
 
 // The arguments.
@@ -56,6 +58,7 @@ fn compare_read(
 
 // Prints what the comparison of what was read answers.
 fn print_comparison(
+    rt: &impl Print,
     height: usize,
     captured: Pair,
     framed: Pair,
@@ -75,30 +78,32 @@ fn print_comparison(
         frame,
         frame_records,
     ) {
-        Compared::Refused(refusal) => print_refused(refusal),
-        Compared::Found(found) => print_differences(found, captured.first, capture, frame),
+        Compared::Refused(refusal) => print_refused(rt, refusal),
+        Compared::Found(found) => print_differences(rt, found, captured.first, capture, frame),
     }
 }
 
 // Reads the files in the order of the arguments, and compares.
 fn compare_files(
+    rt: &(impl Files + Env + Print),
     height: usize,
     capture: &mut [u8],
     capture_records: &mut [u8],
     frame: &mut [u8],
     frame_records: &mut [u8],
 ) {
-    let captured = files::read_pair(CAPTURE, CAPTURE_RECORDS, capture, capture_records);
+    let captured = files::read_pair(rt, CAPTURE, CAPTURE_RECORDS, capture, capture_records);
     if captured.unread != 0 {
-        files::print_unreadable(captured.unread);
+        files::print_unreadable(rt, captured.unread);
         return;
     }
-    let framed = files::read_pair(FRAME, FRAME_RECORDS, frame, frame_records);
+    let framed = files::read_pair(rt, FRAME, FRAME_RECORDS, frame, frame_records);
     if framed.unread != 0 {
-        files::print_unreadable(framed.unread);
+        files::print_unreadable(rt, framed.unread);
         return;
     }
     print_comparison(
+        rt,
         height,
         captured,
         framed,
@@ -111,38 +116,41 @@ fn compare_files(
 
 // Does what the arguments ask.
 fn run_lent(
+    rt: &(impl Files + Env + Print),
     capture: &mut [u8],
     capture_records: &mut [u8],
     frame: &mut [u8],
     frame_records: &mut [u8],
 ) {
-    if os::arg_count() != FRAME_RECORDS + 1 {
-        files::print_usage(&USAGE);
+    if files::argument_count(rt) != FRAME_RECORDS + 1 {
+        files::print_usage(rt, &USAGE);
         return;
     }
-    let Number::Value(height) = files::number_argument(HEIGHT) else {
-        files::print_usage(&USAGE);
+    let Number::Value(height) = files::number_argument(rt, HEIGHT) else {
+        files::print_usage(rt, &USAGE);
         return;
     };
-    compare_files(height, capture, capture_records, frame, frame_records);
+    compare_files(rt, height, capture, capture_records, frame, frame_records);
 }
 
 // Each buffer holds one byte more than is allowed, so that a longer file shows.
 fn run(
+    rt: &(impl Files + Env + Print),
     capture: &mut [u8; 753665],
     capture_records: &mut [u8; 1024 * RECORD_BYTES + 1],
     frame: &mut [u8; 753665],
     frame_records: &mut [u8; 1024 * RECORD_BYTES + 1],
 ) {
-    run_lent(capture, capture_records, frame, frame_records);
+    run_lent(rt, capture, capture_records, frame, frame_records);
 }
 
-fn main() {
+fn main(rt: HostRuntime) {
     let mut capture = [0u8; 753665];
     let mut capture_records = [0u8; 1024 * RECORD_BYTES + 1];
     let mut frame = [0u8; 753665];
     let mut frame_records = [0u8; 1024 * RECORD_BYTES + 1];
     run(
+        &rt,
         &mut capture,
         &mut capture_records,
         &mut frame,

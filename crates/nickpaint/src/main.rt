@@ -11,6 +11,8 @@ ghost use Rattle.nickpaint.specs.PaintingAfterWrites.{PaintsAfter};
 use files::Places;
 use lists::smaller;
 use nick::RECORD_BYTES;
+use std::env::Env;
+use std::rt::Files;
 use text::Number;
 
 // The arguments after RAM and WRITES.
@@ -41,19 +43,20 @@ const USAGE: [u8; 174] =
     *b"usage: nickpaint RAM WRITES HEIGHT DOTS RECORDS [EXTERNAL]; WRITES is pairs of bytes, port and value, at most 32,768; DOTS and RECORDS are two files, and neither is an input\n";
 
 // Stamps RECORDS, unless an output is an input, and answers what is left to do.
-fn start() -> Task {
-    let asked = files::number_argument(HEIGHT);
-    if !files::begin(PLACES, asked, &USAGE) {
+fn start(rt: &(impl Files + Env + Print)) -> Task {
+    let asked = files::number_argument(rt, HEIGHT);
+    if !files::begin(rt, PLACES, asked, &USAGE) {
         return Task::Nothing;
     }
     let Number::Value(height) = asked else {
-        files::print_usage(&USAGE);
+        files::print_usage(rt, &USAGE);
         return Task::Nothing;
     };
     Task::Paint(height)
 }
 
 // Paints from the state that the writes leave, and answers a write's refusal, or the painting's.
+#[tactic(auto, unfolding(files::specs::Writes::after_writes))]
 fn paint(
     writes: &[u8],
     ram: &[u8],
@@ -74,6 +77,7 @@ fn paint(
 
 // Paints what the files hold and writes it, or prints the refusal. A height over 1,024 is refused before its buffers count.
 fn paint_files(
+    rt: &(impl Files + Env + Print),
     ram: &[u8],
     writes: &[u8],
     height: usize,
@@ -95,16 +99,17 @@ fn paint_files(
         external,
     );
     if refused != 0 {
-        files::print_refusal(refused);
+        files::print_refusal(rt, refused);
         return;
     }
-    if files::write_outputs(PLACES, &dots[0..dots_end], &mut records[0..records_end]) {
-        files::print_painted(lines);
+    if files::write_outputs(rt, PLACES, &dots[0..dots_end], &mut records[0..records_end]) {
+        files::print_painted(rt, lines);
     }
 }
 
 // Reads EXTERNAL, where it is given, and paints. Answers whether it could be read.
 fn run_read(
+    rt: &(impl Files + Env + Print),
     is_given: bool,
     ram: &[u8],
     writes: &[u8],
@@ -115,17 +120,18 @@ fn run_read(
 ) -> bool
     requires { (length dots.old ≡ 753664) × (length records.old ≡ 1024 * record_bytes) }
 {
-    let read = files::read_optional(EXTERNAL, is_given, external);
+    let read = files::read_optional(rt, EXTERNAL, is_given, external);
     if !read.is_read {
         return false;
     }
     let end = read.length;
-    paint_files(ram, writes, height, dots, records, &external[0..end]);
+    paint_files(rt, ram, writes, height, dots, records, &external[0..end]);
     true
 }
 
 // Reads the files and paints. Answers false where EXTERNAL could not be read, which is then to be told.
 fn run_lent(
+    rt: &(impl Files + Env + Print),
     is_given: bool,
     height: usize,
     ram: &mut [u8],
@@ -136,13 +142,14 @@ fn run_lent(
 ) -> bool
     requires { (length dots.old ≡ 753664) × (length records.old ≡ 1024 * record_bytes) }
 {
-    let read = files::read_inputs(ram, writes, &USAGE);
+    let read = files::read_inputs(rt, ram, writes, &USAGE);
     if !read.is_read {
         return true;
     }
     let ram_end = read.ram;
     let writes_end = read.writes;
     run_read(
+        rt,
         is_given,
         &ram[0..ram_end],
         &writes[0..writes_end],
@@ -155,6 +162,7 @@ fn run_lent(
 
 // Each buffer that is read into holds one byte more than is allowed, so that a longer file shows.
 fn run(
+    rt: &(impl Files + Env + Print),
     is_given: bool,
     height: usize,
     ram: &mut [u8; 65537],
@@ -163,17 +171,18 @@ fn run(
     records: &mut [u8; 1024 * RECORD_BYTES],
     external: &mut [u8; 753665],
 ) -> bool {
-    run_lent(is_given, height, ram, writes, dots, records, external)
+    run_lent(rt, is_given, height, ram, writes, dots, records, external)
 }
 
 // Makes room for the buffers, some 1.6 MB, and paints.
-fn run_in_buffers(is_given: bool, height: usize) -> bool {
+fn run_in_buffers(rt: &(impl Files + Env + Print), is_given: bool, height: usize) -> bool {
     let mut ram = [0u8; 65537];
     let mut writes = [0u8; 65537];
     let mut dots = [0u8; 753664];
     let mut records = [0u8; 1024 * RECORD_BYTES];
     let mut external = [0u8; 753665];
     run(
+        rt,
         is_given,
         height,
         &mut ram,
@@ -186,16 +195,16 @@ fn run_in_buffers(is_given: bool, height: usize) -> bool {
 
 // There must be no buffers before RECORDS is stamped, and the compiler makes a function that is called in one place, or in two that
 // go on alike, part of its caller: so run_in_buffers is called in two places, which go on differently. check_example tries it.
-fn main() {
-    let task = start();
+fn main(rt: HostRuntime) {
+    let task = start(&rt);
     let Task::Paint(height) = task else {
         return;
     };
-    if !files::is_given(EXTERNAL) {
-        run_in_buffers(false, height);
+    if !files::is_given(&rt, EXTERNAL) {
+        run_in_buffers(&rt, false, height);
         return;
     }
-    if !run_in_buffers(true, height) {
-        files::print_unreadable(EXTERNAL);
+    if !run_in_buffers(&rt, true, height) {
+        files::print_unreadable(&rt, EXTERNAL);
     }
 }
