@@ -1,7 +1,8 @@
 // RAM and register writes, from the files that a program's first two arguments name.
-ghost use Rattle.std.specs.Prelude.{◌≡◌, ◌%◌, ◌≤◌, ◌&&◌, eqb, length};
+ghost use Rattle.std.specs.Prelude.{◌≡◌, ◌%◌, ◌≤◌, not, ◌&&◌, eqb, length};
 
-use crate::pair::{check_read, read_pair};
+use crate::pair::read_pair;
+use crate::print::{print_unreadable, print_usage};
 use std::env::Env;
 use std::rt::Files;
 
@@ -18,11 +19,19 @@ pub struct Inputs {
     pub writes: usize,
 }
 
-// Whether RAM and WRITES can be used: both are read, and WRITES is pairs of bytes. Prints why where not.
+// Prints which file could not be read, or how the program is used where WRITES is not pairs of bytes; answers whether neither.
 fn check_inputs(rt: &(impl Env + Print), unread: usize, writes: usize, usage: &[u8]) -> bool
-    ensures { result ≡ (eqb unread 0 && eqb (writes % 2) 0) }
+    ensures { result ≡ (eqb unread 0 && not (eqb (writes % 2) 1)) }
 {
-    check_read(rt, unread, writes % 2 == 0, usage)
+    if unread != 0 {
+        print_unreadable(rt, unread);
+        return false;
+    }
+    if writes % 2 == 1 {
+        print_usage(rt, usage);
+        return false;
+    }
+    true
 }
 
 // Reads RAM and WRITES, and prints why they cannot be used where they cannot.

@@ -14,5 +14,4 @@ fn main(rt: HostRuntime) {
     files::print_refusal(&rt, 10);
     files::print_refusal(&rt, 11);
     files::print_refusal(&rt, 12);
-    files::print_refusal(&rt, 19);
 }
