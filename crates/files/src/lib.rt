@@ -11,8 +11,8 @@ mod same;
 mod writes;
 
 pub use argument::{
-    Contents, argument_count, is_given, number_argument, read_argument, read_optional, write_argument,
-    write_repeated,
+    Contents, argument_count, is_given, number_argument, read_argument, read_optional,
+    write_argument, write_repeated,
 };
 pub use colour_words::{print_byte, print_colour};
 pub use inputs::{Inputs, RAM, WRITES, read_inputs};
