@@ -9,7 +9,7 @@ pub fn fill(out: &mut [u8], value: u8)
     ensures { out.new ≡ replicate (length out.old) value }
 {
     let mut i = 0;
-    while i < out.len() {
+    'places: while i < out.len() {
         out[i] = value;
         i += 1;
     }

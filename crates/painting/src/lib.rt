@@ -16,6 +16,7 @@ use refusals::{is_bad_external, is_bad_height, is_bad_length, is_ill_formed, is_
 use scanline::paint_scanline;
 
 // The refusal of a painting, 0 for none: the tests in the order of their numbers.
+#[tactic(auto, using(nick::proofs::Refusals::height_most))]
 fn refusal(
     state: State,
     ram: &[u8],

@@ -16,7 +16,8 @@ fn digit(byte: u8) -> usize
     if byte < 48 {
         return 10;
     }
-    if 57 < byte {
+    let is_past_nine = 57 < byte;
+    if is_past_nine {
         return 10;
     }
     (byte - 48) as usize

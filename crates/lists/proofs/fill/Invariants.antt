@@ -2,8 +2,8 @@
 use Rattle.std.proofs.Common.{drop, length, replicate, ◌++◌, ◌-◌, ◌≡◌, ◌≤◌}
 use Rattle.lists.proofs.fill.Given as goal
 
-abbrev pub invariant-loop-i : goal.invariant-loop-i
-invariant-loop-i l = (l.i ≤ length l.initial.out) × (length l.out ≡ length l.initial.out) × (l.out ≡ replicate l.i l.value ++ drop l.i l.initial.out)
+abbrev pub invariant-places : goal.invariant-places
+invariant-places l = (l.i ≤ length l.initial.out) × (length l.out ≡ length l.initial.out) × (l.out ≡ replicate l.i l.value ++ drop l.i l.initial.out)
 
-abbrev pub decreases-loop-i : goal.decreases-loop-i
-decreases-loop-i l = length l.initial.out - l.i
+abbrev pub decreases-places : goal.decreases-places
+decreases-places l = length l.initial.out - l.i

@@ -1,7 +1,7 @@
 -- `painting::refusal` makes the table's tests in its order; each return is the law of the test that led there.
-use Rattle.std.proofs.Common.{arith, false, sym, ◌∙◌, ◌≡◌}
+use Rattle.std.proofs.Common.{false, sym, ◌∙◌, ◌≡◌}
 use Rattle.nick.specs.Refusals.{ill_formed, not_full, bad_height, bad_dots, bad_records}
-use Rattle.nick.proofs.Refusals.{height_most, painting_lines}
+use Rattle.nick.proofs.Refusals.{painting_lines}
 use Rattle.painting.proofs.RefusalTable.{refused_state, refused_ram, refused_height, refused_dots, refused_records, refused_external, not_refused}
 use Rattle.painting.proofs.refusal.Goals as goal
 
@@ -29,9 +29,6 @@ returns-then-is_bad_height c =
     (sym c.is_bad_height.ensures ∙ c.if-is_bad_height.true)
     ∙ sym (painting_lines a.state a.ram.now a.height a.dots.now a.records.now a.external.now)
 
-pub is_bad_length-requires : goal.is_bad_length-requires
-is_bad_length-requires c = (omega arith, height_most c.args.height (sym c.is_bad_height.ensures ∙ c.if-is_bad_height.false))
-
 pub returns-then-is_bad_length : goal.returns-then-is_bad_length
 returns-then-is_bad_length c =
     let a = c.args in
@@ -41,9 +38,6 @@ returns-then-is_bad_length c =
     refused_dots (bad_height a.height) a.state a.ram.now a.height a.dots.now a.records.now a.external.now formed full height
     (sym c.is_bad_length.ensures ∙ c.if-is_bad_length.true)
     ∙ sym (painting_lines a.state a.ram.now a.height a.dots.now a.records.now a.external.now)
-
-pub is_bad_length-requires-2 : goal.is_bad_length-requires-2
-is_bad_length-requires-2 c = (omega arith, height_most c.args.height (sym c.is_bad_height.ensures ∙ c.if-is_bad_height.false))
 
 pub returns-then-is_bad_length-2 : goal.returns-then-is_bad_length-2
 returns-then-is_bad_length-2 c =
@@ -55,9 +49,6 @@ returns-then-is_bad_length-2 c =
     refused_records (bad_height a.height) a.state a.ram.now a.height a.dots.now a.records.now a.external.now formed full height places
     (sym c.is_bad_length-2.ensures ∙ c.if-is_bad_length-2.true)
     ∙ sym (painting_lines a.state a.ram.now a.height a.dots.now a.records.now a.external.now)
-
-pub is_bad_external-requires : goal.is_bad_external-requires
-is_bad_external-requires c = height_most c.args.height (sym c.is_bad_height.ensures ∙ c.if-is_bad_height.false)
 
 pub returns-then-is_bad_external : goal.returns-then-is_bad_external
 returns-then-is_bad_external c =
