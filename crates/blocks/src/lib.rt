@@ -106,6 +106,7 @@ fn load(registers: Registers, ram: &[u8], scan: Scan) -> Scan
 }
 
 // The scan of a mode line that goes on.
+#[tactic(auto, unfolding(nick::specs::Blocks::continued))]
 fn resume(scan: Scan) -> Scan
     ensures { result ≡ continued scan }
 {

@@ -167,6 +167,7 @@ fn registered(state: State, registers: Registers, reload: bool) -> Written
 }
 
 // Writes one register. Ports 132 to 143 are reserved, and no others are the chip's.
+#[tactic(auto, unfolding(crate::specs::Registers::written, crate::specs::Registers::written_registers, crate::specs::Registers::written_scan, crate::specs::Internal::registered_as))]
 pub fn write(state: State, port: u32, value: u8) -> Written
     ensures { result ≡ record { refusal = write_refusal port; state = written state port value } }
 {

@@ -19,6 +19,7 @@ pub struct Slot {
 }
 
 // Shows a slot, whether it fetched or not; its external bytes are from `from` on.
+#[tactic(auto, unfolding(crate::specs::Shows::fetched_dots))]
 fn show_slot(
     registers: Registers,
     palette: &[u8],
