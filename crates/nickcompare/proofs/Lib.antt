@@ -1,1 +1,2 @@
 pub mod FirstDot
+pub mod Magnitude

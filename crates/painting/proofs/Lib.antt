@@ -1,3 +1,4 @@
 pub mod RefusalTable
+pub mod LinesTable
 pub mod OwnLine
 pub mod FrameLines

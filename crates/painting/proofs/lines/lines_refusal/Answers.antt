@@ -1,7 +1,7 @@
 -- `painting::lines::lines_refusal` makes the table's tests in its order; each return is the law of the test that led there.
 use Rattle.std.proofs.Common.{arith, false, sym, ◌∙◌, ◌≡◌}
 use Rattle.nick.specs.Refusals.{ill_formed, not_full, bad_dots, bad_records}
-use Rattle.painting.proofs.RefusalTable.{refused_state, refused_ram, refused_height, refused_dots, refused_records, refused_external, not_refused}
+use Rattle.painting.proofs.LinesTable.{refused_state, refused_ram, refused_height, refused_dots, refused_records, refused_external, not_refused}
 use Rattle.painting.proofs.lines.lines_refusal.Goals as goal
 
 pub returns-then-is_ill_formed : goal.returns-then-is_ill_formed
