@@ -21,7 +21,7 @@ use Rattle.nick.specs.declared.State.{State}
 use Rattle.nick.proofs.Refusals.{external_fits, painting_lines}
 use Rattle.nick.proofs.WellFormed.{not_ill_formed}
 use Rattle.laws.proofs.Paintings.{accepted_is}
-use Rattle.painting.proofs.RefusalTable.{not_refused}
+use Rattle.painting.proofs.LinesTable.{not_refused}
 use Rattle.painting.proofs.OwnLine.{lines_same}
 use Rattle.claims.proofs.Demand3.{frame_direct, answered_directly}
 use Rattle.script.specs.Steps.{Step, paints, steps_of, is_paint, lines_in, step_refusal, begins, after}
