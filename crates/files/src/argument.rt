@@ -7,7 +7,8 @@ use std::io::{Read, Write};
 use std::rt::Files;
 use text::Number;
 
-// The room for an argument: a path has fewer bytes.
+// The room for an argument: a path has fewer bytes. A function that makes it is not to be part of its caller, so that little stack is
+// needed before RECORDS is stamped.
 pub const PATH_MAX: usize = 4096;
 
 // What was read into a buffer: whether the file could be read, and its length, or the buffer's where the file is longer.
@@ -17,14 +18,13 @@ pub struct Contents {
     pub length: usize,
 }
 
-// Puts argument i at the start of the buffer, cut where it is longer, and answers how long it is there: 0 where it is absent.
+// Puts argument i at the start of the buffer and answers its length: 0 where it is absent or longer than the buffer.
 pub fn copy_argument(rt: &impl Env, i: usize, buf: &mut [u8; PATH_MAX]) -> usize
     ensures { result ≤ 4096 }
 {
     match rt.arg(i, buf) {
         Ok(n) => n,
-        Err(FillError::TooLong) => PATH_MAX,
-        Err(FillError::NotPresent) => 0,
+        Err(_) => 0,
     }
 }
 
@@ -60,6 +60,7 @@ fn read_open(file: &mut impl Read, buf: &mut [u8]) -> Contents
 }
 
 // Opens the file that argument i names to be read, where that can be done. A name that is not UTF-8 opens none.
+#[inline(never)]
 fn open_to_read<R: Files + Env>(rt: &R, i: usize) -> Option<R::File> {
     let mut path = [0u8; PATH_MAX];
     let n = copy_argument(rt, i, &mut path);
@@ -110,6 +111,7 @@ pub fn read_optional(rt: &(impl Files + Env), i: usize, is_given: bool, buf: &mu
 }
 
 // Opens the file that argument i names to be written anew, where that can be done. A name that is not UTF-8 opens none.
+#[inline(never)]
 fn open_argument<R: Files + Env>(rt: &R, i: usize) -> Option<R::File> {
     let mut path = [0u8; PATH_MAX];
     let n = copy_argument(rt, i, &mut path);
@@ -141,6 +143,7 @@ pub fn write_argument(rt: &(impl Files + Env), i: usize, bytes: &[u8]) -> bool {
 }
 
 // Whether two arguments are the same text.
+#[inline(never)]
 pub fn is_same_argument(rt: &impl Env, i: usize, j: usize) -> bool {
     let mut first = [0u8; PATH_MAX];
     let mut second = [0u8; PATH_MAX];
@@ -150,6 +153,7 @@ pub fn is_same_argument(rt: &impl Env, i: usize, j: usize) -> bool {
 }
 
 // The number that argument i is.
+#[inline(never)]
 pub fn number_argument(rt: &impl Env, i: usize) -> Number {
     let mut digits = [0u8; PATH_MAX];
     let n = copy_argument(rt, i, &mut digits);

@@ -76,6 +76,7 @@ pub fn print_usage(rt: &impl Print, usage: &[u8]) {
 }
 
 // Prints argument i and ends the line.
+#[inline(never)]
 fn print_argument(rt: &(impl Env + Print), i: usize) {
     let mut path = [0u8; PATH_MAX];
     let n = copy_argument(rt, i, &mut path);

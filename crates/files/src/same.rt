@@ -47,6 +47,7 @@ fn file_at(rt: &impl Files, path: &[u8]) -> File {
 }
 
 // The file that argument i names. An argument that is empty, of 4,096 bytes or more, or not UTF-8 names none.
+#[inline(never)]
 fn file_of(rt: &(impl Files + Env), i: usize) -> File {
     let mut path = [0u8; PATH_MAX];
     let n = copy_argument(rt, i, &mut path);
@@ -73,6 +74,7 @@ fn is_one(a: File, b: File) -> bool
 }
 
 // Whether argument i is a name that is not UTF-8, of which the operating system is not asked.
+#[inline(never)]
 fn is_unknown(rt: &impl Env, i: usize) -> bool {
     let mut path = [0u8; PATH_MAX];
     let n = copy_argument(rt, i, &mut path);
