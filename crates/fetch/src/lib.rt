@@ -148,6 +148,7 @@ pub fn fetch_slot(ram: &[u8], block: Block, n: usize, at: Pointers) -> Fetched
 }
 
 // The colour of a dot for which nothing is fetched: BORDER, but blank in VSYNC.
+#[tactic(auto, using(nick::proofs::ModeNumbers::syncs_zero))]
 pub fn unfetched(registers: Registers, block: Block) -> u8
     ensures { result ≡ (if syncs (mode_of block) then 0 else registers.border) }
 {
@@ -173,6 +174,7 @@ pub fn pixel_at(fetched: Fetched, j: usize) -> Pixel
 }
 
 // The addresses that dot `j` of an active slot comes from.
+#[tactic(auto, unfolding(nick::specs::Slots::mode_numbered))]
 fn active_sources(ram: &[u8], block: Block, at: Pointers, j: usize) -> Sources
     requires { (length ram.now ≡ 65536) × (j < 16) }
     ensures { addresses_of result ≡ dot_addresses (mode_of block) ram.now at j }

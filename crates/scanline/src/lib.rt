@@ -69,6 +69,7 @@ fn slots_in_order(
 }
 
 // Paints the 46 dot slots of a scanline that has begun; where no slot fetches, all at once, since much of a frame is such scanlines.
+#[tactic(auto, using(crate::proofs::Idle::idle_dots, crate::proofs::Idle::idle_at, crate::proofs::Idle::idle_fetches))]
 fn paint_slots(
     registers: Registers,
     ram: &[u8],

@@ -180,6 +180,7 @@ fn show_mixed(
 }
 
 // Shows the sixteen dots of a slot that fetched; their external bytes are from `from` on.
+#[tactic(auto, using(crate::proofs::CellDots::plain_mixed))]
 pub fn show(
     registers: Registers,
     palette: &[u8],

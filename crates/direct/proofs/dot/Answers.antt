@@ -4,8 +4,6 @@ use Rattle.nick.proofs.Refusals.{Answerable, answerable}
 use Rattle.direct.proofs.DotFromBytes.{direct_refused, direct_answered}
 use Rattle.direct.proofs.dot.Goals as goal
 
--- nothing is refused
-
 pub returns-then-refusal-ne0 : goal.returns-then-refusal-ne0
 returns-then-refusal-ne0 c =
     let a = c.args in

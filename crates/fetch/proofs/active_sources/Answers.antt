@@ -28,15 +28,3 @@ returns-in_default c =
     let mode = c.video_mode-mode in
     let seven : mode.result ≡ 7 = omega arith in
     rw (sym mode.ensures.0 ∙ seven)
-
-pub returns-then-j-lt8 : goal.returns-then-j-lt8
-unfolding mode_numbered
-returns-then-j-lt8 c =
-    let half : c.args.j / 8 ≡ 0 = omega arith in
-    rw (sym c.video_mode-mode.ensures.0 ∙ c.in-1.is, half)
-
-pub returns-else-j-lt8 : goal.returns-else-j-lt8
-unfolding mode_numbered
-returns-else-j-lt8 c =
-    let half : c.args.j / 8 ≡ 1 = omega arith in
-    rw (sym c.video_mode-mode.ensures.0 ∙ c.in-1.is, half)

@@ -5,8 +5,6 @@ use Rattle.nick.proofs.Refusals.{full}
 use Rattle.listing.proofs.ListAnswers.{wrote_nothing, refused_ram, refused_short, listed}
 use Rattle.listing.proofs.list.Goals as goal
 
--- RAM is whole
-
 pub returns-then-is_not_full : goal.returns-then-is_not_full
 returns-then-is_not_full c =
     let a = c.args in

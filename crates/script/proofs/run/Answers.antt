@@ -4,8 +4,6 @@ use Rattle.nick.specs.Sizes.{record_bytes}
 use Rattle.script.proofs.RunTable.{run_accepted, runs_refused, records_inside, runs_done}
 use Rattle.script.proofs.run.Goals as goal
 
--- the records painted lie inside their buffer
-
 pub returns-then-refusal-ne0 : goal.returns-then-refusal-ne0
 returns-then-refusal-ne0 c =
     let a = c.args in

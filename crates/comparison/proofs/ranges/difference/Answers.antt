@@ -5,8 +5,6 @@ use Rattle.comparison.specs.Comparison.{level_of}
 use Rattle.comparison.proofs.Signed.{minus_fits, minus_read}
 use Rattle.comparison.proofs.ranges.difference.Goals as goal
 
--- the two levels
-
 pub overflow_sub-result : goal.overflow_sub-result
 overflow_sub-result c =
     let of-capture : (let a = c.args in c.level.result ≡ level_of a.channel (levels_of a.capture)) = c.level.ensures ∙ ap (level_of c.args.channel) c.levels_of.ensures in

@@ -7,8 +7,6 @@ use Rattle.comparison.specs.Answers.{told_by}
 use Rattle.comparison.proofs.RefusalTable.{of_dots, of_records, records_fit, refused_height, refused_dots, refused_records, by_stamps}
 use Rattle.comparison.proofs.table.refusal_of.Goals as goal
 
--- what is known once a number is tested
-
 pub returns-then-is_bad_height : goal.returns-then-is_bad_height
 returns-then-is_bad_height c =
     let a = c.args in

@@ -7,7 +7,6 @@ use Rattle.script.proofs.Going.{going_first, going_all, going_more, going_stop}
 use Rattle.script.proofs.steps.do_steps.Goals as goal
 
 -- a whole step lies inside the script
-
 step-inside : (n place : ℕ) → place < n / 3 → 3 * place + 3 ≤ n
 step-inside n place h = omega arith
 

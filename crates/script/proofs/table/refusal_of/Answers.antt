@@ -4,8 +4,6 @@ use Rattle.nick.specs.Refusals.{lines_refusal}
 use Rattle.script.proofs.RunTable.{from_table, refused_table, refused_half, not_refused}
 use Rattle.script.proofs.table.refusal_of.Goals as goal
 
--- the number that the table of paintings gives
-
 pub returns-then-refusal-ne0 : goal.returns-then-refusal-ne0
 returns-then-refusal-ne0 c =
     let from-table : c.lines_refusal-refusal.result ≡ from_table c.args.state c.args.ram.now c.args.script.now c.args.dots.now c.args.records.now c.args.external.now = (let a = c.args in
