@@ -1,1 +1,2 @@
 pub mod ActiveSlots
+pub mod Modes

@@ -4,21 +4,21 @@
 mod margins;
 mod mode;
 
-ghost use Rattle.std.specs.Prelude.{◌≡◌, ◌<◌, length};
+ghost use Rattle.std.specs.Prelude.{◌≡◌, ◌<◌};
 ghost use Rattle.nick.specs.Registers.{base_number};
 ghost use Rattle.nick.specs.Blocks.{decoded, block_at, loaded_number, loaded, continued, loads, begun};
 
 use lists::word;
 pub use margins::{active_before, is_active};
 pub use mode::{
-    ATTR, CH64, CH128, CH256, LPIXEL, PIXEL, UNUSED, VSYNC, code_width, colour_mode, has_reload,
-    has_vint, has_vres, video_mode,
+    CodeWidth, ColourMode, VideoMode, code_width, colour_mode, has_reload, has_vint, has_vres,
+    video_mode,
 };
-use nick::{Block, Pointers, Registers, Scan};
+use nick::{Block, Pointers, Ram, Registers, Scan};
 
 // The block that sixteen bytes hold.
-pub fn decode(bytes: &[u8]) -> Block
-    requires { length bytes.now ≡ 16 }
+#[tactic(auto, unfolding(nick::specs::Blocks::decoded))]
+pub fn decode(bytes: &[u8; 16]) -> Block
     ensures { result ≡ decoded bytes.now }
 {
     let start = Pointers {
@@ -39,13 +39,13 @@ pub fn decode(bytes: &[u8]) -> Block
 }
 
 // The block that starts at sixteen times its number.
-pub fn block_at(ram: &[u8], number: u16) -> Block
-    requires { (length ram.now ≡ 65536) × (number < 4096) }
+#[tactic(auto, using(lists::proofs::Laws::chunk_at), unfolding(nick::specs::Blocks::block_at))]
+pub fn block_at(ram: &Ram, number: u16) -> Block
+    requires { number < 4096 }
     ensures { result ≡ block_at ram.now number }
 {
-    let a = number as usize * 16;
-    let e = a + 16;
-    decode(&ram[a..e])
+    let (blocks, _) = ram.as_chunks();
+    decode(&blocks[number as usize])
 }
 
 // The number of the table's first block.
@@ -63,14 +63,12 @@ pub fn is_loading(scan: Scan) -> bool
 }
 
 // The number of the block that a load takes.
+#[tactic(auto, unfolding(nick::specs::Blocks::loaded_number))]
 fn loaded_number(registers: Registers, scan: Scan) -> u16
     requires { scan.number < 4096 }
     ensures { (result ≡ loaded_number registers scan) × (result < 4096) }
 {
-    if scan.pending {
-        return base_number(registers);
-    }
-    if has_reload(scan.block) {
+    if scan.pending || has_reload(scan.block) {
         return base_number(registers);
     }
     if registers.lph / 64 % 2 == 0 {
@@ -80,25 +78,24 @@ fn loaded_number(registers: Registers, scan: Scan) -> u16
 }
 
 // The scan after block `number` is loaded.
-fn load_block(registers: Registers, ram: &[u8], number: u16) -> Scan
-    requires { (length ram.now ≡ 65536) × (number < 4096) }
+#[tactic(auto, unfolding(nick::specs::Blocks::loaded))]
+fn load_block(registers: Registers, ram: &Ram, number: u16) -> Scan
+    requires { number < 4096 }
     ensures { result ≡ loaded registers number (block_at ram.now number) }
 {
     let block = block_at(ram, number);
-    let at = block.start;
-    let left = 256 - block.sc as u16;
     Scan {
         pending: registers.lph / 128 % 2 == 0,
         block,
         number,
-        at,
-        left,
+        at: block.start,
+        left: 256 - u16::from(block.sc),
     }
 }
 
 // The scan after a load.
-fn load(registers: Registers, ram: &[u8], scan: Scan) -> Scan
-    requires { (length ram.now ≡ 65536) × (scan.number < 4096) }
+fn load(registers: Registers, ram: &Ram, scan: Scan) -> Scan
+    requires { scan.number < 4096 }
     ensures { result ≡ loaded registers (loaded_number registers scan) (block_at ram.now (loaded_number registers scan)) }
 {
     let number = loaded_number(registers, scan);
@@ -110,23 +107,18 @@ fn load(registers: Registers, ram: &[u8], scan: Scan) -> Scan
 fn resume(scan: Scan) -> Scan
     ensures { result ≡ continued scan }
 {
-    let block = scan.block;
     let mut at = scan.at;
-    if !has_vres(block) {
-        at.ld1 = block.start.ld1;
+    if !has_vres(scan.block) {
+        at.ld1 = scan.block.start.ld1;
     }
-    Scan {
-        pending: scan.pending,
-        block,
-        number: scan.number,
-        at,
-        left: scan.left,
-    }
+    Scan { at, ..scan }
 }
 
-// The scan as the next scanline begins.
-pub fn begin(registers: Registers, ram: &[u8], scan: Scan) -> Scan
-    requires { (length ram.now ≡ 65536) × (scan.number < 4096) }
+// The scan as the next scanline begins. It is inlined, since a scanline in which nothing is fetched is little more.
+#[tactic(auto, unfolding(nick::specs::Blocks::begun))]
+#[inline(always)]
+pub fn begin(registers: Registers, ram: &Ram, scan: Scan) -> Scan
+    requires { scan.number < 4096 }
     ensures { result ≡ begun registers ram.now scan }
 {
     if is_loading(scan) {

@@ -1,31 +1,23 @@
 // The margins of a block, and its active slots.
-ghost use Rattle.std.specs.Prelude.{◌≡◌, ◌<◌, ◌≤◌, min};
+ghost use Rattle.std.specs.Prelude.{◌≡◌, ◌<◌, ◌≤◌};
 ghost use Rattle.nick.specs.Slots.{left_margin, right_margin};
 ghost use Rattle.nick.specs.Scanline.{active_at};
 ghost use Rattle.blocks.specs.ActiveSlots.{active_before};
 
 use nick::Block;
 
-// The smaller of two numbers.
-fn smaller(a: u16, b: u16) -> u16
-    ensures { result ≡ min a b }
-{
-    if a < b { a } else { b }
-}
-
 // The first slot that may be active.
 fn left_margin(block: Block) -> u16
     ensures { (result ≡ left_margin block) × (8 ≤ result) × (result < 64) }
 {
-    let slot = block.lm as u16 % 64;
-    if slot < 8 { 8 } else { slot }
+    (u16::from(block.lm) % 64).max(8)
 }
 
 // The slot after the last that may be active.
 fn right_margin(block: Block) -> u16
     ensures { (result ≡ right_margin block) × (result ≤ 54) }
 {
-    smaller(block.rm as u16 % 64, 54)
+    (u16::from(block.rm) % 64).min(54)
 }
 
 // Whether a dot slot is active.
@@ -41,7 +33,6 @@ pub fn active_before(block: Block, slots: u16) -> u16
     requires { slots ≤ 46 }
     ensures { (result ≡ active_before block slots) × (result ≤ 46) }
 {
-    let left = left_margin(block);
-    let end = smaller(right_margin(block), 8 + slots);
-    if left < end { end - left } else { 0 }
+    let end = right_margin(block).min(8 + slots);
+    end.saturating_sub(left_margin(block))
 }

@@ -1,39 +1,92 @@
-// The bits of MB by name: the video mode and its numbers, the colour mode, VINT, VRES and RELOAD.
-ghost use Rattle.std.specs.Prelude.{◌≡◌, ◌<◌, ◌≤◌};
+// The bits of MB by name: the video mode, the colour mode, VINT, VRES and RELOAD.
+ghost use Rattle.std.specs.Prelude.{◌≡◌, ◌≤◌};
 ghost use Rattle.nick.specs.Blocks.{vint, vres, reload};
-ghost use Rattle.nick.specs.Slots.{CH, mode_number, mode_numbered};
-ghost use Rattle.nick.specs.Colour.{colour_number};
+ghost use Rattle.nick.specs.Slots.{CH, mode_number, mode_numbered, mode_of};
+ghost use Rattle.nick.specs.Colour.{colour_number, colours_of};
+ghost use Rattle.blocks.specs.Modes.{bits_in, mode_named, mode_number_in, colours_named, colour_number_in};
+ghost use Rattle.blocks.specs.declared.mode.VideoMode.TheVariants.{Character};
 
 use nick::Block;
 
-pub const VSYNC: u8 = 0;
-
-pub const PIXEL: u8 = 1;
-
-pub const ATTR: u8 = 2;
-
-pub const CH256: u8 = 3;
-
-pub const CH128: u8 = 4;
-
-pub const CH64: u8 = 5;
-
-pub const UNUSED: u8 = 6;
-
-pub const LPIXEL: u8 = 7;
-
-// The number of the video mode.
-pub fn video_mode(block: Block) -> u8
-    ensures { (result ≡ mode_number block) × (result < 8) }
-{
-    block.mb / 2 % 8
+// How many bits the codes of a character mode have.
+#[derive(Clone, Copy, PartialEq, Eq)]
+pub enum CodeWidth {
+    Six = 6,
+    Seven = 7,
+    Eight = 8,
 }
 
-// The number of the colour mode: 0 to 3 for 2, 4, 16 and 256 colours.
-pub fn colour_mode(block: Block) -> u8
-    ensures { (result ≡ colour_number block) × (result < 4) }
+// What a slot fetches. The character modes CH256, CH128 and CH64 have codes of eight, seven and six bits.
+#[derive(Clone, Copy, PartialEq, Eq)]
+pub enum VideoMode {
+    Vsync,
+    Pixel,
+    Attr,
+    Character(CodeWidth),
+    Unused,
+    Lpixel,
+}
+
+// How many colours a display byte can show.
+#[derive(Clone, Copy, PartialEq, Eq)]
+pub enum ColourMode {
+    Two,
+    Four,
+    Sixteen,
+    All,
+}
+
+impl From<CodeWidth> for u8 {
+    ghost from_gives = { λ width n. n ≡ bits_in width };
+
+    fn from(width: CodeWidth) -> u8 {
+        width as u8
+    }
+}
+
+// The width of a character mode's codes, by the mode's number: CH256, CH128 and CH64 are 3, 4 and 5.
+#[tactic(auto, unfolding(nick::specs::Slots::mode_numbered))]
+pub fn code_width(mode: u8) -> CodeWidth
+    requires { (3 ≤ mode) × (mode ≤ 5) }
+    ensures named { mode_numbered mode ≡ CH (bits_in result) }
+    ensures numbered { mode_number_in (Character result) ≡ mode }
 {
-    block.mb / 32 % 4
+    match mode {
+        3 => CodeWidth::Eight,
+        4 => CodeWidth::Seven,
+        _ => CodeWidth::Six,
+    }
+}
+
+// The video mode: its number decides.
+#[tactic(auto, unfolding(nick::specs::Slots::mode_numbered))]
+pub fn video_mode(block: Block) -> VideoMode
+    ensures named { mode_named result ≡ mode_of block }
+    ensures numbered { mode_number_in result ≡ mode_number block }
+{
+    let mode = block.mb / 2 % 8;
+    match mode {
+        0 => VideoMode::Vsync,
+        1 => VideoMode::Pixel,
+        2 => VideoMode::Attr,
+        3..=5 => VideoMode::Character(code_width(mode)),
+        6 => VideoMode::Unused,
+        _ => VideoMode::Lpixel,
+    }
+}
+
+// The colour mode.
+#[tactic(auto, unfolding(nick::specs::Colour::colours_numbered))]
+pub fn colour_mode(block: Block) -> ColourMode
+    ensures named { colours_named result ≡ colours_of block }
+    ensures numbered { colour_number_in result ≡ colour_number block }
+{
+    match block.mb / 32 % 4 {
+        0 => ColourMode::Two,
+        1 => ColourMode::Four,
+        2 => ColourMode::Sixteen,
+        _ => ColourMode::All,
+    }
 }
 
 // Whether the block's scanlines hold VIRQ low.
@@ -55,13 +108,4 @@ pub fn has_reload(block: Block) -> bool
     ensures { result ≡ reload block }
 {
     block.mb % 2 == 1
-}
-
-// The width of a character mode's codes: CH256, CH128 and CH64 are numbered 3, 4 and 5 and have codes of 8, 7 and 6 bits, so
-// that number and width add up to 11.
-pub fn code_width(mode: u8) -> u8
-    requires { (3 ≤ mode) × (mode ≤ 5) }
-    ensures { (mode_numbered mode ≡ CH result) × (6 ≤ result) × (result ≤ 8) }
-{
-    11 - mode
 }

@@ -1,13 +1,11 @@
 // The head of a case: what is drawn first, and the state made from it.
-ghost use Rattle.std.specs.Prelude.{◌≡◌, ◌<◌, ◌≤◌, length};
-ghost use Rattle.cases.specs.Head.{Drawn};
+ghost use Rattle.std.specs.Prelude.{◌<◌, ◌≤◌};
 
-use crate::source::{Source, draw, seeded};
-use lists::word;
+use crate::source::Source;
 use nick::{Pointers, Registers, Scan, State};
 
 // The head: F, G and K, the state, the drawn height, and T0 to T9.
-#[derive(Clone, Copy)]
+#[derive(Clone, Copy, PartialEq, Eq)]
 pub struct Head {
     pub f: u8,
     pub g: u8,
@@ -15,10 +13,12 @@ pub struct Head {
     pub state: State,
     pub height: usize,
     pub t: [u8; 10],
+    ghost number_below: { state.scan.number < 4096 },
+    ghost height_most: { height ≤ 1024 },
 }
 
 // A case whose head is drawn.
-#[derive(Clone, Copy)]
+#[derive(Clone, Copy, PartialEq, Eq)]
 pub struct Case {
     pub source: Source,
     pub head: Head,
@@ -55,91 +55,69 @@ fn left_of(left: u16, k: u8) -> u16 {
     if k / 8 % 2 == 1 { left % 4 } else { left % 257 }
 }
 
-// The registers of the head's bytes.
-fn registers_of(bytes: &[u8], k: u8) -> Registers
-    requires { length bytes.now ≡ 44 }
-{
-    Registers {
-        fixbias: bytes[2],
-        border: bytes[3],
-        lpl: lpl_of(bytes[4], k),
-        lph: lph_of(bytes[5], k),
-    }
-}
-
-// The place in the line parameter table, of the head's bytes.
-fn scan_of(bytes: &[u8], k: u8) -> Scan
-    requires { length bytes.now ≡ 44 }
-    ensures { result.number < 4096 }
-{
-    let at = Pointers {
-        ld1: word(bytes[9], bytes[10]),
-        ld2: word(bytes[11], bytes[12]),
-    };
-    let block = blocks::decode(&bytes[15..31]);
-    Scan {
-        pending: k % 2 == 1,
-        block,
-        number: number_of(word(bytes[7], bytes[8]), k),
-        at,
-        left: left_of(word(bytes[13], bytes[14]), k),
-    }
-}
-
-// The state of the head's bytes, before any fault.
-fn state_of(bytes: &[u8], k: u8) -> State
-    requires { length bytes.now ≡ 44 }
-    ensures { result.scan.number < 4096 }
-{
-    let registers = registers_of(bytes, k);
-    let scan = scan_of(bytes, k);
-    State {
-        registers,
-        scan,
-        virq: k / 2 % 2 == 1,
-        sync: k / 4 % 2 == 1,
-    }
-}
-
 // The drawn height, by H0 to H2.
 fn height_of(h0: u8, h1: u8, h2: u8) -> usize
     ensures { result ≤ 1024 }
 {
     match h0 {
         0..=3 => 1024,
-        4..=19 => 1 + word(h1, h2) as usize % 1024,
-        20..=83 => 1 + h1 as usize % 64,
-        _ => 1 + h1 as usize % 8,
+        4..=19 => 1 + usize::from(u16::from_le_bytes([h1, h2])) % 1024,
+        20..=83 => 1 + usize::from(h1) % 64,
+        _ => 1 + usize::from(h1) % 8,
     }
 }
 
-// The head of its 44 bytes.
-fn head_of(bytes: &[u8]) -> Head
-    requires { length bytes.now ≡ 44 }
-    ensures { Drawn result }
+// Draws the place in the line parameter table.
+fn draw_scan(source: &mut Source, k: u8) -> Scan
+    ensures { result.number < 4096 }
 {
-    let k = bytes[6];
-    let state = state_of(bytes, k);
-    let t = [
-        bytes[34], bytes[35], bytes[36], bytes[37], bytes[38], bytes[39], bytes[40], bytes[41],
-        bytes[42], bytes[43],
-    ];
+    let number = number_of(source.word(), k);
+    let ld1 = source.word();
+    let ld2 = source.word();
+    let left = left_of(source.word(), k);
+    let block: [u8; 16] = source.bytes();
+    Scan {
+        pending: k % 2 == 1,
+        block: blocks::decode(&block),
+        number,
+        at: Pointers { ld1, ld2 },
+        left,
+    }
+}
+
+// Draws a head, before any fault: its parts in the order of the draws.
+fn draw_head(source: &mut Source) -> Head {
+    let [f, g, fixbias, border, lpl, lph, k]: [u8; 7] = source.bytes();
+    let scan = draw_scan(source, k);
+    let [h0, h1, h2]: [u8; 3] = source.bytes();
+    let t = source.bytes();
+    let registers = Registers {
+        fixbias,
+        border,
+        lpl: lpl_of(lpl, k),
+        lph: lph_of(lph, k),
+    };
+    let state = State {
+        registers,
+        scan,
+        virq: k / 2 % 2 == 1,
+        sync: k / 4 % 2 == 1,
+    };
     Head {
-        f: bytes[0],
-        g: bytes[1],
+        f,
+        g,
         k,
         state,
-        height: height_of(bytes[31], bytes[32], bytes[33]),
+        height: height_of(h0, h1, h2),
         t,
     }
 }
 
-// A case of a family, with its head drawn.
-pub fn begin(family: u8, case: u32) -> Case
-    ensures { Drawn result.head }
-{
-    let mut bytes = [0u8; 44];
-    let source = draw(seeded(family, case), &mut bytes);
-    let head = head_of(&bytes);
-    Case { source, head }
+impl Case {
+    // A case of a family, with its head drawn.
+    pub(crate) fn begin(family: u8, case: u32) -> Self {
+        let mut source = Source::seeded(family, case);
+        let head = draw_head(&mut source);
+        Case { source, head }
+    }
 }

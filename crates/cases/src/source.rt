@@ -1,9 +1,12 @@
 // The seeded generator: xorshift on 64 bits.
 
+// How many bytes are drawn of a buffer that then repeats them.
+const PERIOD: usize = 5888;
+
 // Where the generator stands.
-#[derive(Clone, Copy)]
+#[derive(Clone, Copy, PartialEq, Eq)]
 pub struct Source {
-    pub x: u64,
+    x: u64,
 }
 
 // One step of xorshift; bits shifted out are lost.
@@ -13,29 +16,48 @@ pub fn step(x: u64) -> u64 {
     b ^ (b << 17)
 }
 
-// The byte drawn by the step to `x`.
-fn drawn(x: u64) -> u8 {
-    (x / 4294967296 % 256) as u8
-}
-
-// Draws all bytes of a slice, in order.
-pub fn draw(source: Source, out: &mut [u8]) -> Source {
-    let mut x = source.x;
-    let mut i = 0;
-    while i < out.len() {
-        x = step(x);
-        out[i] = drawn(x);
-        i += 1;
+impl Source {
+    // The generator at the start of a case, after the sixteen bytes that are thrown away.
+    pub fn seeded(family: u8, case: u32) -> Self {
+        let seed = u64::from(family) * 1099511627776 + u64::from(case) + 1;
+        let mut source = Source {
+            x: 88172645463325252 ^ seed,
+        };
+        let _thrown: [u8; 16] = source.bytes();
+        source
     }
-    Source { x }
-}
 
-// The generator at the start of a case, after the sixteen bytes that are thrown away.
-pub fn seeded(family: u8, case: u32) -> Source {
-    let seed = family as u64 * 1099511627776 + case as u64 + 1;
-    let mut thrown = [0u8; 16];
-    let source = Source {
-        x: 88172645463325252 ^ seed,
-    };
-    draw(source, &mut thrown)
+    // Draws a byte.
+    pub fn byte(&mut self) -> u8 {
+        self.x = step(self.x);
+        (self.x / 4294967296 % 256) as u8
+    }
+
+    // Draws N bytes, in order.
+    pub fn bytes<const N: usize>(&mut self) -> [u8; N] {
+        let mut bytes = [0u8; N];
+        self.fill(&mut bytes);
+        bytes
+    }
+
+    // Draws a word, low byte first.
+    pub fn word(&mut self) -> u16 {
+        u16::from_le_bytes(self.bytes())
+    }
+
+    // Draws all bytes of a slice, in order.
+    pub fn fill(&mut self, out: &mut [u8]) {
+        for byte in out {
+            *byte = self.byte();
+        }
+    }
+
+    // Draws up to 5,888 bytes, and has these again after them.
+    pub fn fill_repeated(&mut self, out: &mut [u8]) {
+        let drawn = out.len().min(PERIOD);
+        self.fill(&mut out[..drawn]);
+        for j in PERIOD..out.len() {
+            out[j] = out[j - PERIOD];
+        }
+    }
 }

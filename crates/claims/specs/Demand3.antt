@@ -1,12 +1,13 @@
 -- Demand 3 (document 01, "The direct answer"): over any list of paintings the direct answer is the painted dot, and it depends
 -- on few bytes of RAM.
-use Rattle.std.specs.Prelude.{◌≡◌, false, cond, List, [], ◌∷◌, ◌++◌, map, ℕ, ◌+◌, ◌-◌, ◌*◌, ◌≤◌, ◌<◌, eqb, length}
+use Rattle.std.specs.Prelude.{Result, ◌≡◌, false, cond, List, [], ◌∷◌, ◌++◌, map, ℕ, ◌+◌, ◌-◌, ◌*◌, ◌≤◌, ◌<◌, eqb, length}
 use Rattle.nick.specs.Numbers.{byte_at}
 use Rattle.nick.specs.Painting.{Painting, paint, paint_line}
 use Rattle.nick.specs.Refusals.{ill_formed}
 use Rattle.nick.specs.Direct.{answered, shows, direct, direct_names, direct_shown, depends_on}
 use Rattle.nick.specs.declared.State.{State}
 use Rattle.nick.specs.declared.Answer.{Answer}
+use Rattle.nick.specs.declared.refusal.Refusal.{Refusal}
 
 -- "Demand 3's list holds calls of both paintings, with any height and buffers."
 pub data Call : Type 0 where
@@ -112,7 +113,7 @@ Dependence =
 -- "The same answer means all that is returned": what the two calls return is the same.
 abbrev pub SameReturned : Type 0
 SameReturned =
-    (s : State) (ram other : List ℕ) (y x e : ℕ) (given returned : Answer)
+    (s : State) (ram other : List ℕ) (y x e : ℕ) (given returned : Result Answer Refusal)
     → AgreesFor s ram other y x
     → answered given ≡ direct s ram y x e
     → answered returned ≡ direct s other y x e

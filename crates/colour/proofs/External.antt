@@ -1,18 +1,15 @@
--- The colour of a dot, where external colour wins and where it does not.
-use mathlib.Core.Path.{◌≡◌}
-use mathlib.Core.Bool.{true, false}
-use Prim.Native.Nat.{ℕ}
-use Rattle.nick.specs.Colour.{palette_colour, pixel_colour}
-use Rattle.nick.specs.External.{external_index, external_wins, mixed_colour}
-use Rattle.nick.specs.declared.Registers.{Registers}
-use Rattle.nick.specs.declared.Block.{Block}
-use Rattle.nick.specs.declared.Pixel.{Pixel}
+-- The rule's entry at each priority, by tests of the priority and of EC.
+use Rattle.std.proofs.Common.{◌≡◌, refl, ℕ, zero, suc, ◌/◌, ◌%◌, ◌<◌, Bool, true, cond, ◌||◌, eqb, ltb, arith}
+use Rattle.nick.specs.External.{priority_gives}
+use Rattle.nick.proofs.Bits.{clear_not_set}
 
-module _ (g : Registers) (b : Block) (p : Pixel) (e : ℕ) where
-  pub wins : external_wins g p e ≡ true → palette_colour g b (external_index e) ≡ mixed_colour g b p e
-  unfolding mixed_colour
-  wins h = rw h
-
-  pub loses : external_wins g p e ≡ false → pixel_colour g b p ≡ mixed_colour g b p e
-  unfolding mixed_colour
-  loses h = rw h
+pub gives_by_test :
+    (priority : ℕ) (high : Bool) (ec : ℕ) → priority < 4 →
+    priority_gives priority high ec
+    ≡ cond (eqb priority 0) true (cond (eqb priority 1) high (high || cond (eqb priority 2) (ltb ec 8) (eqb (ec / 4 % 2) 0)))
+unfolding priority_gives
+gives_by_test zero high ec h = refl
+gives_by_test (suc zero) high ec h = refl
+gives_by_test (suc (suc zero)) high ec h = refl
+gives_by_test (suc (suc (suc zero))) high ec h = rw (clear_not_set (ec / 4))
+gives_by_test (suc (suc (suc (suc n)))) high ec h = absurd (omega arith)

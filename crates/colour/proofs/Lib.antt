@@ -1,5 +1,3 @@
 pub mod Cells
 pub mod Weights
-mod Alternates
-pub mod Pixels
-mod External
+pub mod External

@@ -5,8 +5,7 @@
 ghost use Rattle.std.specs.Prelude.{◌<◌};
 ghost use Rattle.colour.specs.Cell.{palette_number};
 
-use blocks::{ATTR, CH64, CH128, CH256, LPIXEL, PIXEL};
-use cases::{START, digest_byte};
+use cases::Digest;
 use colour::Cell;
 use nick::{Block, Pixel, Registers};
 use std::io;
@@ -17,94 +16,34 @@ const FIRST_BYTES: [u8; 6] = [0, 64, 128, 192, 27, 255];
 // Values of FIXBIAS for the palette.
 const BIASES: [u8; 6] = [0, 21, 31, 32, 96, 255];
 
+// COLn is 37 n + 11, of 256.
+const STEPPED: [u8; 8] = [11, 48, 85, 122, 159, 196, 233, 14];
+
+// COLn is 255 - n.
+const FALLING: [u8; 8] = [255, 254, 253, 252, 251, 250, 249, 248];
+
+// A video mode: how many dots an eighth of a byte has; the attributes or codes that stand beside a display byte, where it has none
+// one that nothing reads; and the cell of a block, an attribute or code, and a display byte.
+#[derive(Drop)]
+struct Mode<'a, F> {
+    dots: u8,
+    firsts: &'a [u8],
+    cell: F,
+}
+
 // Registers with FIXBIAS alone.
 fn biased(fixbias: u8) -> Registers {
-    let mut registers = nick::fresh().registers;
-    registers.fixbias = fixbias;
-    registers
+    Registers {
+        fixbias,
+        ..nick::fresh().registers
+    }
 }
 
 // A block with the palette's first eight alone.
 fn block_with(col: [u8; 8]) -> Block {
-    let mut block = nick::fresh().scan.block;
-    block.col = col;
-    block
-}
-
-// COLn is 37 n + 11, of 256.
-fn stepped() -> Block {
-    block_with([11, 48, 85, 122, 159, 196, 233, 14])
-}
-
-// COLn is 255 - n.
-fn falling() -> Block {
-    block_with([255, 254, 253, 252, 251, 250, 249, 248])
-}
-
-// The cell of a display byte in a video mode.
-fn cell_in(mode: u8, block: Block, first: u8, byte: u8) -> Cell {
-    match mode {
-        PIXEL | LPIXEL => colour::graphics_cell(block, byte),
-        ATTR => colour::attribute_cell(first, byte),
-        _ => colour::character_cell(block, first, byte),
-    }
-}
-
-// The palette number of the dot at an eighth of the byte; 255 and the colour where it has none.
-fn digest_dot(d: u64, cell: Cell, at: u8) -> u64
-    requires { at < 8 }
-{
-    let pixel = colour::pixel_at(cell, at);
-    match pixel {
-        Pixel::Palette(n) => digest_byte(d, n),
-        Pixel::Direct(c) => digest_byte(digest_byte(d, 255), c),
-    }
-}
-
-// The dots of an eighth: one in PIXEL, two in the other modes.
-fn digest_eighth(d: u64, mode: u8, cell: Cell, at: u8) -> u64
-    requires { at < 8 }
-{
-    let once = digest_dot(d, cell, at);
-    if mode == PIXEL {
-        once
-    } else {
-        digest_dot(once, cell, at)
-    }
-}
-
-// The dots of a byte.
-fn digest_cell(d: u64, mode: u8, cell: Cell) -> u64 {
-    let mut d = d;
-    for at in 0..8 {
-        d = digest_eighth(d, mode, cell, at);
-    }
-    d
-}
-
-// Every display byte beside one attribute or code.
-fn digest_bytes(d: u64, mode: u8, block: Block, first: u8) -> u64 {
-    let mut d = d;
-    for v in 0..256u16 {
-        d = digest_cell(d, mode, cell_in(mode, block, first, v as u8));
-    }
-    d
-}
-
-// Every attribute or code.
-fn digest_firsts(d: u64, mode: u8, block: Block) -> u64 {
-    let mut d = d;
-    for i in 0..6 {
-        d = digest_bytes(d, mode, block, FIRST_BYTES[i]);
-    }
-    d
-}
-
-// Every display byte of a block; in PIXEL and LPIXEL no attribute or code goes with it.
-fn digest_block(d: u64, mode: u8, block: Block) -> u64 {
-    match mode {
-        PIXEL | LPIXEL => digest_bytes(d, mode, block, 0),
-        _ => digest_firsts(d, mode, block),
+    Block {
+        col,
+        ..nick::fresh().scan.block
     }
 }
 
@@ -113,145 +52,166 @@ fn block_in(colours: u8, bits: u8) -> Block
     requires colours_bound { colours < 4 }
     requires bits_bound { bits < 16 }
 {
-    let mut block = nick::fresh().scan.block;
-    block.mb = 32 * colours;
-    block.lm = 64 * (bits / 4);
-    block.rm = 64 * (bits % 4);
-    block
+    Block {
+        mb: 32 * colours,
+        lm: 64 * (bits / 4),
+        rm: 64 * (bits % 4),
+        ..nick::fresh().scan.block
+    }
 }
 
-// Every setting of the alternate bits.
-fn digest_mode(mode: u8, colours: u8) -> u64
-    requires { colours < 4 }
+// Takes in the palette number of the dot at an eighth of the byte; 255 and the colour where it has none.
+fn digest_dot(digest: &mut Digest, cell: Cell, at: u8)
+    requires { at < 8 }
 {
-    let mut d = START;
+    match colour::pixel_at(cell, at) {
+        Pixel::Palette(n) => digest.byte(n),
+        Pixel::Direct(colour) => digest.bytes(&[255, colour]),
+    }
+}
+
+// Takes in the dots of an eighth of the byte, which are alike.
+fn digest_eighth(digest: &mut Digest, dots: u8, cell: Cell, at: u8)
+    requires { at < 8 }
+{
+    for _ in 0..dots {
+        digest_dot(digest, cell, at);
+    }
+}
+
+// Takes in the dots of a byte.
+fn digest_cell(digest: &mut Digest, dots: u8, cell: Cell) {
+    for at in 0..8 {
+        digest_eighth(digest, dots, cell, at);
+    }
+}
+
+// Takes in every display byte beside one attribute or code.
+fn digest_bytes<F: Fn(Block, u8, u8) -> Cell>(
+    digest: &mut Digest,
+    mode: &Mode<'_, F>,
+    block: Block,
+    first: u8,
+)
+    requires { F.IsAlwaysCallable mode.now.cell }
+{
+    for byte in 0..=255 {
+        digest_cell(digest, mode.dots, (mode.cell)(block, first, byte));
+    }
+}
+
+// Takes in every display byte of a block, beside each attribute or code.
+fn digest_block<F: Fn(Block, u8, u8) -> Cell>(digest: &mut Digest, mode: &Mode<'_, F>, block: Block)
+    requires { F.IsAlwaysCallable mode.now.cell }
+{
+    for first in mode.firsts {
+        digest_bytes(digest, mode, block, *first);
+    }
+}
+
+// The digest of every setting of the alternate bits.
+fn mode_digest<F: Fn(Block, u8, u8) -> Cell>(mode: &Mode<'_, F>, colours: u8) -> Digest
+    requires colours_bound { colours < 4 }
+    requires callable { F.IsAlwaysCallable mode.now.cell }
+{
+    let mut digest = Digest::new();
     for bits in 0..16 {
-        d = digest_block(d, mode, block_in(colours, bits));
+        digest_block(&mut digest, mode, block_in(colours, bits));
     }
-    d
+    digest
 }
 
-// The sixteen palette colours.
-fn digest_palette(d: u64, registers: Registers, block: Block) -> u64 {
-    let mut d = d;
+// Takes in the sixteen palette colours.
+fn digest_palette(digest: &mut Digest, registers: Registers, block: Block) {
     for n in 0..16 {
-        d = digest_byte(d, colour::palette_colour(registers, block, n));
+        digest.byte(colour::palette_colour(registers, block, n));
     }
-    d
 }
 
-// The palette at one FIXBIAS, over both sets of columns.
-fn digest_bias(d: u64, fixbias: u8) -> u64 {
-    let registers = biased(fixbias);
-    digest_palette(
-        digest_palette(d, registers, stepped()),
-        registers,
-        falling(),
-    )
-}
-
-// The palette at every FIXBIAS.
-fn digest_palettes() -> u64 {
-    let mut d = START;
-    for i in 0..6 {
-        d = digest_bias(d, BIASES[i]);
+// The digest of the palette at every FIXBIAS, over both sets of columns.
+fn palettes_digest() -> Digest {
+    let mut digest = Digest::new();
+    for fixbias in BIASES {
+        let registers = biased(fixbias);
+        digest_palette(&mut digest, registers, block_with(STEPPED));
+        digest_palette(&mut digest, registers, block_with(FALLING));
     }
-    d
+    digest
 }
 
-// Every external byte over one pixel.
-fn digest_mixed(d: u64, registers: Registers, pixel: Pixel) -> u64
+// Takes in every external byte over one pixel.
+fn digest_mixed(digest: &mut Digest, registers: Registers, pixel: Pixel)
     requires { palette_number pixel < 16 }
 {
-    let mut d = d;
-    for external in 0..256u16 {
-        d = digest_byte(
-            d,
-            colour::mixed_colour(registers, stepped(), pixel, external as u8),
-        );
+    let block = block_with(STEPPED);
+    for external in 0..=255 {
+        digest.byte(colour::mixed_colour(registers, block, pixel, external));
     }
-    d
 }
 
-// Every external byte over the sixteen palette numbers, then over a 256-colour dot.
-fn digest_external(priority: u8) -> u64
+// The digest of every external byte over the sixteen palette numbers, then over a 256-colour dot.
+fn external_digest(priority: u8) -> Digest
     requires { priority < 4 }
 {
     let registers = biased(32 * priority + 21);
-    let mut d = START;
+    let mut digest = Digest::new();
     for n in 0..16 {
-        d = digest_mixed(d, registers, Pixel::Palette(n));
+        digest_mixed(&mut digest, registers, Pixel::Palette(n));
     }
-    digest_mixed(d, registers, Pixel::Direct(200))
+    digest_mixed(&mut digest, registers, Pixel::Direct(200));
+    digest
 }
 
-// The levels of a colour byte.
-fn digest_colour(d: u64, colour: u8) -> u64 {
-    let levels = nick::levels_of(colour);
-    digest_byte(
-        digest_byte(digest_byte(d, levels.red), levels.green),
-        levels.blue,
-    )
-}
-
-// The levels of every colour byte.
-fn digest_levels() -> u64 {
-    let mut d = START;
-    for colour in 0..256u16 {
-        d = digest_colour(d, colour as u8);
+// The digest of the levels of every colour byte.
+fn levels_digest() -> Digest {
+    let mut digest = Digest::new();
+    for colour in 0..=255 {
+        let levels = nick::levels_of(colour);
+        digest.bytes(&[levels.red, levels.green, levels.blue]);
     }
-    d
+    digest
 }
 
-// A space, the digest and a line feed.
-fn print_digest(rt: &impl Print, d: u64) -> io::Result<()> {
-    println!(rt; " {d}")
-}
-
-// The line of a video mode in a colour mode.
-fn print_mode(rt: &impl Print, name: &[u8], mode: u8, colours: u8) -> io::Result<()>
-    requires { colours < 4 }
+// Prints the lines of a video mode, one for each colour mode.
+fn print_mode<F: Fn(Block, u8, u8) -> Cell>(
+    rt: &impl Print,
+    name: &str,
+    dots: u8,
+    firsts: &[u8],
+    cell: F,
+) -> io::Result<()>
+    requires { F.IsAlwaysCallable cell }
 {
-    rt.print("colours ")?;
-    rt.write_all(name)?;
-    print!(rt; " {colours}")?;
-    print_digest(rt, digest_mode(mode, colours))
-}
-
-// The lines of a video mode.
-fn print_colour_modes(rt: &impl Print, name: &[u8], mode: u8) -> io::Result<()> {
+    let mode = Mode { dots, firsts, cell };
     for colours in 0..4 {
-        print_mode(rt, name, mode, colours)?;
+        let digest = mode_digest(&mode, colours);
+        println!(rt; "colours {name} {colours} {digest}")?;
     }
     Ok(())
 }
 
-// The line of a priority.
-fn print_external(rt: &impl Print, priority: u8) -> io::Result<()>
-    requires { priority < 4 }
-{
-    print!(rt; "colours external {priority}")?;
-    print_digest(rt, digest_external(priority))
-}
-
-fn print_externals(rt: &impl Print) -> io::Result<()> {
+// Prints the lines of external colour, one for each priority.
+fn print_external(rt: &impl Print) -> io::Result<()> {
     for priority in 0..4 {
-        print_external(rt, priority)?;
+        let digest = external_digest(priority);
+        println!(rt; "colours external {priority} {digest}")?;
     }
     Ok(())
 }
 
 fn main(rt: HostRuntime) -> io::Result<()> {
     let rt = &rt;
-    print_colour_modes(rt, b"PIXEL", PIXEL)?;
-    print_colour_modes(rt, b"LPIXEL", LPIXEL)?;
-    print_colour_modes(rt, b"ATTR", ATTR)?;
-    print_colour_modes(rt, b"CH256", CH256)?;
-    print_colour_modes(rt, b"CH128", CH128)?;
-    print_colour_modes(rt, b"CH64", CH64)?;
-    rt.print("colours palette")?;
-    print_digest(rt, digest_palettes())?;
-    print_externals(rt)?;
-    rt.print("colours levels")?;
-    print_digest(rt, digest_levels())
+    let graphics = |block, _, byte| colour::graphics_cell(block, byte);
+    let attributes = |_, first, byte| colour::attribute_cell(first, byte);
+    print_mode(rt, "PIXEL", 1, &[0], graphics)?;
+    print_mode(rt, "LPIXEL", 2, &[0], graphics)?;
+    print_mode(rt, "ATTR", 2, &FIRST_BYTES, attributes)?;
+    for name in ["CH256", "CH128", "CH64"] {
+        print_mode(rt, name, 2, &FIRST_BYTES, colour::character_cell)?;
+    }
+    let palettes = palettes_digest();
+    println!(rt; "colours palette {palettes}")?;
+    print_external(rt)?;
+    let levels = levels_digest();
+    println!(rt; "colours levels {levels}")
 }

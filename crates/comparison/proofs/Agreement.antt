@@ -1,11 +1,13 @@
 -- The statements of specs/Agreement, proved.
 use mathlib.Core.Path.{◌≡◌, refl, sym, ap, ◌∙◌}
 use mathlib.Core.Logic.{◌⊎◌, inl, inr}
-use mathlib.Core.List.{List, zip}
+use mathlib.Core.List.{List}
+use Rattle.std.specs.List.{zip}
+use Rattle.std.proofs.lemmas.Slice.Zip.{length-zip, get_or-zip}
+use Rattle.std.proofs.lemmas.Int.{ints}
 use Prim.Native.Nat.{ℕ, ◌+◌, ◌*◌, ◌<◌}
 use native.Mathlib.Omega.{arith}
-use lib.Dec.{leb→le}
-use lib.IntN.{ℤ, pos, negsuc}
+use lib.IntN.{ℤ, pos}
 use lib.ListN.{length, get_or, length-map, get_or-map}
 use lib.Seq.{ext_get_or}
 use lib.Signed.{◌≤ℤ◌}
@@ -15,7 +17,7 @@ use Rattle.comparison.specs.Agreement.{Bytes, range_in, AllZero, NoneDiffers, Sa
 use Rattle.comparison.specs.declared.Channel.{Channel}
 use Rattle.comparison.specs.declared.Channel.TheVariants.{Red, Green, Blue}
 use Rattle.comparison.proofs.RefusalTable.{found_is, comparable, clear, not_refused, accepted_is}
-use Rattle.comparison.proofs.FirstDot.{zip_length, zip_place, first_is, first_inside}
+use Rattle.comparison.proofs.FirstDot.{first_is, first_inside}
 use Rattle.comparison.proofs.Extremes.{range_extremes, range_turned}
 use Rattle.comparison.proofs.Colours.{levels_determine}
 use Rattle.comparison.proofs.Sides.{same_count, same_first, count_agrees, first_agrees, no_difference, levels_same, count_turned, first_turned, differences_turned}
@@ -28,15 +30,14 @@ difference_place :
     → get_or (differences channel (zip xs ys)) i (pos 0) ≡ difference channel (byte_at xs i, byte_at ys i)
 difference_place channel xs ys i h e =
     rw (← no_difference channel 0)
-    (get_or-map (difference channel) (zip xs ys) i (0, 0) ∙ ap (difference channel) (zip_place xs ys i h e))
+    (get_or-map (difference channel) (zip xs ys) i (0, 0) ∙ ap (difference channel) (get_or-zip xs ys i (0, 0) h (omega arith)))
 
 differences_length : (channel : Channel) (xs ys : List ℕ) → length ys ≡ length xs → length (differences channel (zip xs ys)) ≡ length xs
-differences_length channel xs ys e = length-map (zip xs ys) (difference channel) ∙ zip_length xs ys e
+differences_length channel xs ys e = omega (arith, length-map (zip xs ys) (difference channel), length-zip xs ys)
 
 -- a number between 0 and 0
 between_zero : (z : ℤ) → pos 0 ≤ℤ z → z ≤ℤ pos 0 → z ≡ pos 0
-between_zero (pos n) low high = ap pos (omega (arith, leb→le n 0 high.le))
-between_zero (negsuc n) low high = absurd low.le
+between_zero z low high = omega (arith, ints)
 
 -- what is found of dots side by side
 module _ (xs ys : List ℕ) (same : length ys ≡ length xs) (some : 0 < length xs) where
@@ -150,10 +151,10 @@ first_differs h capture capture_records frame frame_records f line dot answer e 
     record {
       in_line = p.in_line;
       inside = inside;
-      differs = rw (there, zip_place capture frame (736 * line + dot) inside same) at p.differs;
+      differs = rw (there, get_or-zip capture frame (736 * line + dot) (0, 0) inside (omega arith)) at p.differs;
       before = λ y x l b.
           let earlier : 736 * y + x < 736 * line + dot = is_before y x l b in
-          rw (zip_place capture frame (736 * y + x) (omega arith) same) at (p.before (736 * y + x) (omega arith));
+          rw (get_or-zip capture frame (736 * y + x) (0, 0) (omega arith) (omega arith)) at (p.before (736 * y + x) (omega arith));
     }
   where
     is_before : (y x : ℕ) → x < 736 → (y < line) ⊎ ((y ≡ line) × (x < dot)) → 736 * y + x < 736 * line + dot

@@ -1,15 +1,24 @@
--- A colour's levels determine it: of the 256 colour bytes, each is got back from its levels.
+-- A colour's levels are at most 7, and determine it: of the 256 colour bytes, each is got back from its levels.
 use mathlib.Core.Path.{◌≡◌, refl, sym, ap, ◌∙◌}
 use mathlib.Core.List.{List}
-use Prim.Native.Nat.{ℕ, ◌+◌, ◌*◌, ◌/◌, ◌%◌, ◌<◌}
+use Prim.Native.Nat.{ℕ, ◌+◌, ◌*◌, ◌/◌, ◌%◌, ◌<◌, ◌≤◌}
+use native.Mathlib.Omega.{arith}
 use lib.ListN.{get_or}
 use Rattle.lists.specs.Tab.{tab}
 use Rattle.lists.proofs.Laws.{get_or_tab}
 use Rattle.nick.specs.Levels.{levels_of}
 use Rattle.nick.specs.declared.Levels.{Levels}
+use Rattle.nick.proofs.Bits.{bit_below}
 use Rattle.comparison.specs.Comparison.{level_of}
 use Rattle.comparison.specs.declared.Channel.{Channel}
 use Rattle.comparison.specs.declared.Channel.TheVariants.{Red, Green, Blue}
+
+-- so a difference is -7 to 7
+pub level_most : (channel : Channel) (colour : ℕ) → level_of channel (levels_of colour) ≤ 7
+unfolding levels_of
+level_most Red c = omega (arith, bit_below 0 c, bit_below 3 c, bit_below 6 c)
+level_most Green c = omega (arith, bit_below 1 c, bit_below 4 c, bit_below 7 c)
+level_most Blue c = omega (arith, bit_below 2 c, bit_below 5 c)
 
 -- the colour byte of these levels
 abbrev colour_of : Levels → ℕ

@@ -1,6 +1,6 @@
 -- Comparisons computed: what is found, and which refusal is told of which side.
 use mathlib.Core.Path.{◌≡◌, refl}
-use mathlib.Core.List.{List, [], ◌∷◌, ◌++◌, map, zip, zip_with}
+use mathlib.Core.List.{List, [], ◌∷◌, ◌++◌, map}
 use Prim.Native.Nat.{ℕ}
 use lib.IntN.{ℤ, pos, negsuc}
 use lib.ListN.{replicate}
@@ -54,5 +54,5 @@ rows =
     ∷ []
 
 pub worked : map (λ (r : Row). r.got) rows ≡ map (λ (r : Row). r.want) rows
-unfolding zip zip_with levels_of difference found_in comparison_refusal comparison
+unfolding levels_of difference found_in comparison_refusal comparison
 worked = refl

@@ -1,32 +1,16 @@
 -- The first dot that differs: it lies in the buffers, it differs, and every dot before it is equal.
 use mathlib.Core.Path.{◌≡◌, refl, sym, ap, ◌∙◌}
-use mathlib.Core.Bool.{Bool, true, false, cond, false≢true}
-use mathlib.Core.List.{List, [], ◌∷◌, zip, zip_with}
+use mathlib.Core.Bool.{Bool, true, false, cond}
+use mathlib.Core.List.{List, [], ◌∷◌}
+use Rattle.std.specs.List.{zip}
+use Rattle.std.proofs.lemmas.Slice.Zip.{length-zip}
 use Prim.Native.Nat.{ℕ, zero, suc, ◌+◌, ◌*◌, ◌/◌, ◌%◌, ◌<◌}
 use native.Mathlib.Omega.{arith}
 use lib.Dec.{eqb}
 use lib.ListN.{length, get_or}
 use borrow.Author.Tests.{eqb-true, eqb-false}
-use Rattle.comparison.specs.Comparison.{Place, none, at, first_from, Found, found_in, found, comparison}
+use Rattle.comparison.specs.Comparison.{at, first_from, Found, found_in, found, comparison}
 use Rattle.comparison.proofs.RefusalTable.{found_is, comparable}
-
--- the two colours at place i of two buffers of one length
-pub zip_length : (xs ys : List ℕ) → length ys ≡ length xs → length (zip xs ys) ≡ length xs
-unfolding zip zip_with
-zip_length [] ys e = refl
-zip_length (x ∷ xs) [] e = e
-zip_length (x ∷ xs) (y ∷ ys) e = ap suc (zip_length xs ys (omega arith))
-
-pub zip_place :
-    (xs ys : List ℕ) (i : ℕ)
-    → i < length xs
-    → length ys ≡ length xs
-    → get_or (zip xs ys) i (0, 0) ≡ (get_or xs i 0, get_or ys i 0)
-unfolding zip zip_with
-zip_place [] ys i h e = absurd (omega arith)
-zip_place (x ∷ xs) [] i h e = absurd (omega arith)
-zip_place (x ∷ xs) (y ∷ ys) zero h e = refl
-zip_place (x ∷ xs) (y ∷ ys) (suc i) h e = zip_place xs ys i (omega arith) (omega arith)
 
 -- what the first place says of dots that begin at a place
 pub record IsFirst (place : ℕ) (dots : List (ℕ × ℕ)) (line dot : ℕ) : Type 0 where
@@ -37,18 +21,6 @@ pub record IsFirst (place : ℕ) (dots : List (ℕ × ℕ)) (line dot : ℕ) : T
   pub differs : (get_or dots offset (0, 0)).0 ≡ (get_or dots offset (0, 0)).1 → ⊥
   pub before : (j : ℕ) → j < offset → (get_or dots j (0, 0)).0 ≡ (get_or dots j (0, 0)).1
 
-abbrev line_of : Place → ℕ
-line_of none = 0
-line_of (at line dot) = line
-
-abbrev dot_of : Place → ℕ
-dot_of none = 0
-dot_of (at line dot) = dot
-
-abbrev is_place : Place → Bool
-is_place none = false
-is_place (at line dot) = true
-
 -- at the dots' own beginning, and one dot later
 first_here :
     (place line dot c f : ℕ) (more : List (ℕ × ℕ))
@@ -56,8 +28,8 @@ first_here :
     → at (place / 736) (place % 736) ≡ at line dot
     → IsFirst place ((c, f) ∷ more) line dot
 first_here place line dot c f more differ e =
-    let l : place / 736 ≡ line = ap line_of e in
-    let d : place % 736 ≡ dot = ap dot_of e in
+    let l : place / 736 ≡ line = cc in
+    let d : place % 736 ≡ dot = cc in
     record {
       offset = 0;
       there = omega arith;
@@ -87,7 +59,7 @@ first_later place line dot c f more same p = record {
 
 pub first_is :
     (place : ℕ) (dots : List (ℕ × ℕ)) (line dot : ℕ) → first_from place dots ≡ at line dot → IsFirst place dots line dot
-first_is place [] line dot e = absurd (false≢true (ap is_place e))
+first_is place [] line dot e = cc
 first_is place ((c, f) ∷ more) line dot e = go (eqb c f) refl e (first_is (suc place) more line dot)
   where
     go :
@@ -111,4 +83,4 @@ first_inside h capture capture_records frame frame_records f line dot e first =
     let sizes = comparable h capture capture_records frame frame_records accepted in
     let same : length frame ≡ length capture = sizes.framed ∙ sym sizes.captured in
     let p = first_is 0 (zip capture frame) line dot (sym (ap (λ (g : Found). g.first) is) ∙ first) in
-    (omega (arith, p.there, p.inside, zip_length capture frame same), same)
+    (omega (arith, p.there, p.inside, length-zip capture frame), same)

@@ -1,6 +1,5 @@
-pub mod Pairs
-pub mod Signed
-pub mod RangeLoop
+pub mod Differing
+pub mod Ranged
 pub mod RefusalTable
 pub mod FirstDot
 pub mod Extremes

@@ -1,7 +1,8 @@
 -- Document 02, item 1, "Compare a capture with a frame": what is given of two dot buffers and their two record buffers, for the same
 -- height. `dots` is the two colours at each dot, the capture's and the frame's, in order.
 use Rattle.std.specs.Prelude.{ℕ, suc, ◌+◌, ◌/◌, ◌%◌, Bool, not, cond, eqb, ℤ, pos, ◌-ℤ◌}
-use mathlib.Core.List.{List, [], ◌∷◌, map, zip, foldl}
+use mathlib.Core.List.{List, [], ◌∷◌, map, foldl}
+use Rattle.std.specs.List.{zip}
 use Rattle.std.specs.Int.Signed.{lt_z}
 use Rattle.lists.specs.Number.{number}
 use Rattle.nick.specs.Levels.{levels_of}

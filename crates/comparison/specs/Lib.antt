@@ -1,3 +1,4 @@
 pub mod Comparison
 pub mod Answers
 pub mod Agreement
+pub mod Widened

@@ -7,38 +7,45 @@ mod ranges;
 mod table;
 
 ghost use Rattle.std.specs.Prelude.{◌≡◌, ◌<◌, ◌≤◌, length};
-ghost use mathlib.Core.List.{zip};
+ghost use Rattle.std.specs.List.{zip};
 ghost use Rattle.comparison.specs.Comparison.{found_in, comparison};
 ghost use Rattle.comparison.specs.Answers.{found_by, answered};
 
 use dots::{count_differing, first_differing};
-use ranges::range_of;
-use table::refusal_of;
+use nick::Refusal;
+use ranges::ranges_of;
+use table::check;
+
+// A capture or a frame: its dots, and its records.
+#[derive(Clone, Copy)]
+pub struct Side<'a> {
+    pub dots: &'a [u8],
+    pub records: &'a [u8],
+}
 
 // The side that a refusal names.
-#[derive(Clone, Copy)]
-pub enum Side {
-    Neither,
+#[derive(Clone, Copy, PartialEq, Eq)]
+pub enum Named {
     Capture,
     Frame,
 }
 
-// A refusal: its number, 0 for none, and the side that it names.
-#[derive(Clone, Copy)]
-pub struct Refusal {
-    pub number: u8,
-    pub side: Side,
+// Why a comparison is refused, and the side at fault where the refusal names one.
+#[derive(Clone, Copy, PartialEq, Eq)]
+pub struct Refused {
+    pub refusal: Refusal,
+    pub side: Option<Named>,
 }
 
-// The first dot that differs: its line, and its place in the line.
-#[derive(Clone, Copy)]
-pub enum First {
-    Nowhere,
-    At(u16, u16),
+// Where a dot is: its line, and its place in the line.
+#[derive(Clone, Copy, PartialEq, Eq)]
+pub struct Place {
+    pub line: u16,
+    pub dot: u16,
 }
 
 // A colour's three levels.
-#[derive(Clone, Copy)]
+#[derive(Clone, Copy, PartialEq, Eq)]
 pub enum Channel {
     Red,
     Green,
@@ -46,61 +53,43 @@ pub enum Channel {
 }
 
 // The smallest and the largest difference of levels, capture minus frame.
-#[derive(Clone, Copy)]
+#[derive(Clone, Copy, PartialEq, Eq)]
 pub struct Range {
     pub smallest: i32,
     pub largest: i32,
 }
 
 // What is found: how many dots differ, the first of them, and the differences of levels.
-#[derive(Clone, Copy)]
+#[derive(Clone, Copy, PartialEq, Eq)]
 pub struct Differences {
     pub count: u32,
-    pub first: First,
+    pub first: Option<Place>,
     pub red: Range,
     pub green: Range,
     pub blue: Range,
 }
 
-// What the comparison answers: a refusal, or what is found.
-#[derive(Clone, Copy)]
-pub enum Compared {
-    Refused(Refusal),
-    Found(Differences),
-}
-
 // Compares the dots of two buffers of one length.
+#[tactic(auto, using(crate::proofs::Differing::count_is), unfolding(crate::specs::Comparison::found_in))]
 fn compare_dots(capture: &[u8], frame: &[u8]) -> Differences
     requires { (0 < length capture.now) × (length capture.now ≤ 753664) × (length frame.now ≡ length capture.now) }
     ensures { found_by result ≡ found_in (zip capture.now frame.now) }
 {
-    let red = range_of(Channel::Red, capture, frame);
-    let green = range_of(Channel::Green, capture, frame);
-    let blue = range_of(Channel::Blue, capture, frame);
-    let first = first_differing(capture, frame);
+    let ranges = ranges_of(capture, frame);
     Differences {
         count: count_differing(capture, frame),
-        first,
-        red,
-        green,
-        blue,
+        first: first_differing(capture, frame),
+        red: ranges.red,
+        green: ranges.green,
+        blue: ranges.blue,
     }
 }
 
 // Compares a capture with a frame of the same height, or refuses.
-pub fn compare(
-    height: usize,
-    capture: &[u8],
-    capture_records: &[u8],
-    frame: &[u8],
-    frame_records: &[u8],
-) -> Compared
-    ensures { answered result ≡ comparison height capture.now capture_records.now frame.now frame_records.now }
+#[tactic(auto, using(crate::proofs::RefusalTable::comparable), unfolding(crate::specs::Comparison::comparison))]
+pub fn compare(height: usize, capture: Side<'_>, frame: Side<'_>) -> Result<Differences, Refused>
+    ensures { answered result ≡ comparison height capture.entry.dots.now capture.entry.records.now frame.entry.dots.now frame.entry.records.now }
 {
-    let refusal = refusal_of(height, capture, capture_records, frame, frame_records);
-    if refusal.number != 0 {
-        return Compared::Refused(refusal);
-    }
-    let found = compare_dots(capture, frame);
-    Compared::Found(found)
+    check(height, capture, frame)?;
+    Ok(compare_dots(capture.dots, frame.dots))
 }

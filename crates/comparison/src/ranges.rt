@@ -1,12 +1,22 @@
 // How far the levels are off.
-ghost use Rattle.std.specs.Prelude.{◌≡◌, ◌<◌, length};
-ghost use mathlib.Core.List.{zip};
-ghost use Rattle.comparison.specs.Comparison.{level_of, difference as Comparison·difference, differences, lesser as Comparison·lesser, greater as Comparison·greater, range_of};
+ghost use Rattle.std.specs.Prelude.{◌≡◌, ◌<◌, length, fold};
+ghost use Rattle.std.specs.List.{zip};
+ghost use Rattle.comparison.specs.Comparison.{level_of, difference as Comparison·difference, differences, range_of};
+ghost use Rattle.comparison.specs.Widened.{range_at as Widened·range_at, widened, ranges_at as Widened·ranges_at, with_dot};
+ghost use Rattle.comparison.specs.declared.Channel.TheVariants.{Red, Green, Blue};
 
 use crate::{Channel, Range};
 use nick::{Levels, levels_of};
 
-// One of a colour's levels.
+// The range of each level.
+#[derive(Clone, Copy, PartialEq, Eq)]
+pub struct Ranges {
+    pub red: Range,
+    pub green: Range,
+    pub blue: Range,
+}
+
+// One of a colour's levels. The rules name a level by its channel, so this is a match and no closure.
 fn level(channel: Channel, levels: Levels) -> u8
     ensures { result ≡ level_of channel levels }
 {
@@ -18,39 +28,75 @@ fn level(channel: Channel, levels: Levels) -> u8
 }
 
 // How far the level of a dot is off: capture minus frame.
+#[tactic(auto, using(crate::proofs::Colours::level_most), unfolding(crate::specs::Comparison::difference))]
 fn difference(channel: Channel, capture: u8, frame: u8) -> i32
     ensures { result ≡ Comparison·difference channel (capture, frame) }
 {
-    level(channel, levels_of(capture)) as i32 - level(channel, levels_of(frame)) as i32
+    i32::from(level(channel, levels_of(capture))) - i32::from(level(channel, levels_of(frame)))
 }
 
-// The lesser of two differences.
-fn lesser(a: i32, b: i32) -> i32
-    ensures { result ≡ Comparison·lesser a b }
+// The range of one difference.
+fn range_at(channel: Channel, capture: u8, frame: u8) -> Range
+    ensures { result ≡ Widened·range_at (Comparison·difference channel (capture, frame)) }
 {
-    if b < a { b } else { a }
-}
-
-// The greater of two differences.
-fn greater(a: i32, b: i32) -> i32
-    ensures { result ≡ Comparison·greater a b }
-{
-    if a < b { b } else { a }
-}
-
-// The smallest and the largest difference over all dots, of which there is at least one.
-pub fn range_of(channel: Channel, capture: &[u8], frame: &[u8]) -> Range
-    requires { (0 < length capture.now) × (length frame.now ≡ length capture.now) }
-    ensures { result ≡ range_of (differences channel (zip capture.now frame.now)) }
-{
-    let mut smallest = difference(channel, capture[0], frame[0]);
-    let mut largest = smallest;
-    let mut i = 1;
-    while i < capture.len() {
-        let next = difference(channel, capture[i], frame[i]);
-        smallest = lesser(smallest, next);
-        largest = greater(largest, next);
-        i += 1;
+    let first = difference(channel, capture, frame);
+    Range {
+        smallest: first,
+        largest: first,
     }
-    Range { smallest, largest }
+}
+
+// A range with one difference more.
+fn widened(range: Range, channel: Channel, capture: u8, frame: u8) -> Range
+    ensures { result ≡ widened range (Comparison·difference channel (capture, frame)) }
+{
+    let next = difference(channel, capture, frame);
+    Range {
+        smallest: range.smallest.min(next),
+        largest: range.largest.max(next),
+    }
+}
+
+// The ranges of one dot.
+fn ranges_at(capture: u8, frame: u8) -> Ranges
+    ensures { result ≡ Widened·ranges_at (capture, frame) }
+{
+    Ranges {
+        red: range_at(Channel::Red, capture, frame),
+        green: range_at(Channel::Green, capture, frame),
+        blue: range_at(Channel::Blue, capture, frame),
+    }
+}
+
+// The ranges with one dot more.
+fn with_dot(ranges: Ranges, capture: u8, frame: u8) -> Ranges
+    ensures { result ≡ with_dot ranges (capture, frame) }
+{
+    Ranges {
+        red: widened(ranges.red, Channel::Red, capture, frame),
+        green: widened(ranges.green, Channel::Green, capture, frame),
+        blue: widened(ranges.blue, Channel::Blue, capture, frame),
+    }
+}
+
+// The ranges with the dots of two buffers more.
+fn with_dots(ranges: Ranges, capture: &[u8], frame: &[u8]) -> Ranges
+    ensures { result ≡ fold with_dot ranges (zip capture.now frame.now) }
+{
+    capture
+        .iter()
+        .zip(frame)
+        .fold(ranges, |ranges, (c, f)| with_dot(ranges, *c, *f))
+}
+
+// The smallest and the largest difference of each level over all dots, of which there is at least one.
+#[tactic(auto, using(crate::proofs::Ranged::ranged))]
+pub fn ranges_of(capture: &[u8], frame: &[u8]) -> Ranges
+    requires { (0 < length capture.now) × (length frame.now ≡ length capture.now) }
+    ensures red { result.red ≡ range_of (differences Red (zip capture.now frame.now)) }
+    ensures green { result.green ≡ range_of (differences Green (zip capture.now frame.now)) }
+    ensures blue { result.blue ≡ range_of (differences Blue (zip capture.now frame.now)) }
+{
+    // The first dot is taken in again, which changes nothing.
+    with_dots(ranges_at(capture[0], frame[0]), capture, frame)
 }

@@ -3,18 +3,16 @@ use mathlib.Core.Path.{◌≡◌, ap, sym, refl, ◌∙◌}
 use mathlib.Core.Bool.{Bool, true, false, cond}
 use mathlib.Core.List.{List, [], ◌∷◌, map}
 use Prim.Native.Nat.{ℕ, ◌/◌, ◌%◌, ◌≤◌, ◌<◌}
-use native.Mathlib.Decide.{dec_lt}
 use native.Mathlib.Omega.{arith}
-use lib.Dec.{eqb}
 use borrow.Author.Tests.{ne_eqb}
 use Rattle.nick.specs.Numbers.{byte_at}
 use Rattle.nick.specs.Blocks.{begun}
-use Rattle.nick.specs.Slots.{Mode, VSYNC, PIXEL, ATTR, CH, UNUSED, LPIXEL, mode_number, mode_numbered, mode_of, dot_addresses}
+use Rattle.nick.specs.Slots.{Mode, VSYNC, PIXEL, ATTR, CH, UNUSED, LPIXEL, mode_of, dot_addresses}
 use Rattle.nick.specs.Colour.{colours_of, dot_in}
 use Rattle.nick.specs.External.{dot_colour, mixed_colour}
 use Rattle.nick.specs.Scanline.{active_at, pointers_after, scan_after}
 use Rattle.nick.specs.Sync.{syncs}
-use Rattle.nick.specs.Refusals.{ill_formed, not_full, bad_place, direct_refusal}
+use Rattle.nick.specs.Refusals.{direct_refusal}
 use Rattle.nick.specs.Direct.{shows, refused, direct_colour, direct_names, direct}
 use Rattle.nick.specs.declared.Registers.{Registers}
 use Rattle.nick.specs.declared.Pointers.{Pointers}
@@ -22,37 +20,10 @@ use Rattle.nick.specs.declared.Block.{Block}
 use Rattle.nick.specs.declared.Scan.{Scan}
 use Rattle.nick.specs.declared.Pixel.{Pixel}
 use Rattle.nick.specs.declared.State.{State}
-use Rattle.lists.proofs.Below.{below_two, below_eight}
 use Rattle.laws.proofs.LineDots.{line_dot}
-use Rattle.colour.specs.Cell.{graphics_cell, cell_pixel}
+use Rattle.colour.specs.Cell.{cell_pixel}
 use Rattle.fetch.proofs.SlotDots.{pixel_dot, mode_dot}
-use Rattle.direct.specs.DotFromBytes.{cell_from, byte_colour, sourced_colour, dot_answer}
-
--- modes 0, 1, 6 and 7 have one byte
-pub low_cell : (b : Block) (first second m : ℕ) → m < 2 → graphics_cell b first ≡ cell_from (mode_numbered m) b first second
-unfolding mode_numbered
-low_cell b first second = below_two (λ m. graphics_cell b first ≡ cell_from (mode_numbered m) b first second) refl refl
-
-pub high_cell : (b : Block) (first second m : ℕ) → 5 < m → m < 8 → graphics_cell b first ≡ cell_from (mode_numbered m) b first second
-unfolding mode_numbered
-high_cell b first second m l h = go (dec_lt m 7)
-  where
-    go : Dec (m < 7) → graphics_cell b first ≡ cell_from (mode_numbered m) b first second
-    go (yes k) = let six : m ≡ 6 = omega arith in rw six
-    go (no k) = let seven : m ≡ 7 = omega arith in rw seven
-
--- PIXEL is mode 1
-abbrev is_pixel : Mode → Bool
-is_pixel VSYNC = false
-is_pixel PIXEL = true
-is_pixel ATTR = false
-is_pixel (CH width) = false
-is_pixel UNUSED = false
-is_pixel LPIXEL = false
-
-pixel_one : (n : ℕ) → n < 8 → eqb n 1 ≡ is_pixel (mode_numbered n)
-unfolding mode_numbered
-pixel_one = below_eight (λ n. eqb n 1 ≡ is_pixel (mode_numbered n)) refl refl refl refl refl refl refl refl
+use Rattle.direct.specs.DotFromBytes.{cell_from, eighth_of, byte_colour, sourced_colour, dot_answer}
 
 module _
     (g : Registers) (ram : List ℕ) (b : Block) (p : Pointers) (j e : ℕ)
@@ -60,14 +31,14 @@ module _
   -- what a dot's bytes show, by the mode
   abbrev shown_by : Mode → List ℕ → ℕ
   shown_by m [] = cond (syncs m) 0 g.border
-  shown_by m (first ∷ []) = mixed_colour g b (cell_pixel (cell_from m b first 0) (cond (is_pixel m) (j % 8) (j / 2))) e
-  shown_by m (first ∷ second ∷ more) = mixed_colour g b (cell_pixel (cell_from m b first second) (cond (is_pixel m) (j % 8) (j / 2))) e
+  shown_by m (first ∷ []) = mixed_colour g b (cell_pixel (cell_from m b first 0) (eighth_of m j)) e
+  shown_by m (first ∷ second ∷ more) = mixed_colour g b (cell_pixel (cell_from m b first second) (eighth_of m j)) e
 
   shown_is : (bytes : List ℕ) → sourced_colour g b bytes j e ≡ shown_by (mode_of b) bytes
   unfolding byte_colour
   shown_is [] = refl
-  shown_is (first ∷ []) = rw (pixel_one (mode_number b) (omega arith))
-  shown_is (first ∷ second ∷ more) = rw (pixel_one (mode_number b) (omega arith))
+  shown_is (first ∷ []) = refl
+  shown_is (first ∷ second ∷ more) = refl
 
   by_mode :
       (active : Bool) (m : Mode)
@@ -119,23 +90,3 @@ module _ (s : State) (ram : List ℕ) (y x e n : ℕ) (given : n ≡ direct_refu
   direct_answered d none h begins =
       let g = s.registers in
       rw (begins, ← given, none, line_dot g ram (scan_after g ram y s.scan) (λ _. e) x (omega arith))
-
--- the refusal table, test by test
-module _ (s : State) (ram : List ℕ) (y x : ℕ) where
-  pub refused_state : ill_formed s.scan ≡ true → 3 ≡ direct_refusal s ram y x
-  unfolding direct_refusal
-  refused_state h = rw h
-
-  module _ (formed : ill_formed s.scan ≡ false) where
-    pub refused_ram : not_full ram ≡ true → 4 ≡ direct_refusal s ram y x
-    unfolding direct_refusal
-    refused_ram h = rw (formed, h)
-
-    module _ (full : not_full ram ≡ false) where
-      pub refused_place : bad_place y x ≡ true → 9 ≡ direct_refusal s ram y x
-      unfolding direct_refusal
-      refused_place h = rw (formed, full, h)
-
-      pub not_refused : bad_place y x ≡ false → 0 ≡ direct_refusal s ram y x
-      unfolding direct_refusal
-      not_refused h = rw (formed, full, h)

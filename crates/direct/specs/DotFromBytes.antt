@@ -1,6 +1,6 @@
 -- What the functions behind the direct answer say of one dot: it is shown from the bytes at the addresses that it names.
-use Rattle.std.specs.Prelude.{ℕ, ◌/◌, ◌%◌, cond, List, [], ◌∷◌, eqb}
-use Rattle.nick.specs.Slots.{Mode, VSYNC, PIXEL, ATTR, CH, UNUSED, LPIXEL, mode_number, mode_of}
+use Rattle.std.specs.Prelude.{ℕ, ◌/◌, ◌%◌, cond, List, [], ◌∷◌}
+use Rattle.nick.specs.Slots.{Mode, VSYNC, PIXEL, ATTR, CH, UNUSED, LPIXEL, mode_of}
 use Rattle.nick.specs.External.{dot_colour, mixed_colour}
 use Rattle.nick.specs.Scanline.{active_at, pointers_after, dot_at}
 use Rattle.nick.specs.Sync.{syncs}
@@ -20,10 +20,19 @@ cell_from (CH width) b first second = character_cell b first second
 cell_from UNUSED b first second = graphics_cell b first
 cell_from LPIXEL b first second = graphics_cell b first
 
+-- which eighth of its display byte dot j of a slot shows: in PIXEL a byte has eight dots, else sixteen
+abbrev pub eighth_of : Mode → ℕ → ℕ
+eighth_of VSYNC j = j / 2
+eighth_of PIXEL j = j % 8
+eighth_of ATTR j = j / 2
+eighth_of (CH width) j = j / 2
+eighth_of UNUSED j = j / 2
+eighth_of LPIXEL j = j / 2
+
 -- the colour of dot j of a slot, from the bytes that it comes from
 unfoldable pub byte_colour : Registers → Block → ℕ → ℕ → ℕ → ℕ → ℕ
 byte_colour g b first second j e =
-    mixed_colour g b (cell_pixel (cell_from (mode_of b) b first second) (cond (eqb (mode_number b) 1) (j % 8) (j / 2))) e
+    mixed_colour g b (cell_pixel (cell_from (mode_of b) b first second) (eighth_of (mode_of b) j)) e
 
 -- the same from the list of these bytes; with none it is BORDER, blank in VSYNC
 abbrev pub sourced_colour : Registers → Block → List ℕ → ℕ → ℕ → ℕ

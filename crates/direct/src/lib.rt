@@ -1,27 +1,26 @@
 // The direct answer: one dot's colour and the addresses that it comes from, without painting.
 #![tactic(auto)]
 
-ghost use Rattle.std.specs.Prelude.{◌≡◌, ◌/◌, ◌%◌, ◌<◌, cond, length, map, eqb};
+ghost use Rattle.std.specs.Prelude.{◌≡◌, ◌/◌, ◌%◌, ◌<◌, Ok, IfOk, map};
 ghost use Rattle.nick.specs.Blocks.{begun};
 ghost use Rattle.nick.specs.Scanline.{scan_after};
 ghost use Rattle.nick.specs.Direct.{addresses_of, answered, direct};
-ghost use Rattle.nick.specs.Refusals.{Formed, bad_place, direct_refusal};
+ghost use Rattle.nick.specs.Refusals.{Formed, refusal_in, bad_place, direct_refusal};
 ghost use Rattle.nick.specs.Numbers.{byte_at};
-ghost use Rattle.nick.specs.Slots.{mode_number, mode_of};
-ghost use Rattle.direct.specs.DotFromBytes.{cell_from, byte_colour, sourced_colour, dot_answer};
+ghost use Rattle.nick.specs.Slots.{mode_of};
+ghost use Rattle.direct.specs.DotFromBytes.{cell_from, eighth_of, byte_colour, sourced_colour, dot_answer};
 
-use blocks::{ATTR, CH64, CH256, PIXEL, video_mode};
+use blocks::{VideoMode, video_mode};
 use colour::Cell;
-use nick::{Answer, Block, Registers, Scan, Sources, State};
+use nick::{Answer, Block, Ram, Refusal, Registers, Scan, Sources, State};
 
 // The display byte of a dot made ready, from the bytes that the dot comes from; `second` counts in ATTR and the character modes.
 fn cell_from(block: Block, first: u8, second: u8) -> Cell
     ensures { result ≡ cell_from (mode_of block) block first second }
 {
-    let mode = video_mode(block);
-    match mode {
-        ATTR => colour::attribute_cell(first, second),
-        CH256..=CH64 => colour::character_cell(block, first, second),
+    match video_mode(block) {
+        VideoMode::Attr => colour::attribute_cell(first, second),
+        VideoMode::Character(_) => colour::character_cell(block, first, second),
         _ => colour::graphics_cell(block, first),
     }
 }
@@ -29,16 +28,16 @@ fn cell_from(block: Block, first: u8, second: u8) -> Cell
 // Which eighth of its display byte dot `j` of a slot shows: in PIXEL a byte has eight dots, else sixteen.
 fn eighth_of(block: Block, j: usize) -> u8
     requires { j < 16 }
-    ensures { (result ≡ cond (eqb (mode_number block) 1) (j % 8) (j / 2)) × (result < 8) }
+    ensures { (result ≡ eighth_of (mode_of block) j) × (result < 8) }
 {
-    if video_mode(block) == PIXEL {
-        (j % 8) as u8
-    } else {
-        (j / 2) as u8
+    match video_mode(block) {
+        VideoMode::Pixel => (j % 8) as u8,
+        _ => (j / 2) as u8,
     }
 }
 
 // The colour of dot `j` of a slot, from the bytes that it comes from.
+#[tactic(auto, using(colour::proofs::Cells::cell_below), unfolding(crate::specs::DotFromBytes::byte_colour))]
 fn byte_colour(
     registers: Registers,
     block: Block,
@@ -58,13 +57,13 @@ fn byte_colour(
 // The colour of dot `j` of a slot that comes from these addresses.
 fn sourced_colour(
     registers: Registers,
-    ram: &[u8],
+    ram: &Ram,
     block: Block,
     sources: Sources,
     j: usize,
     external: u8,
 ) -> u8
-    requires { (length ram.now ≡ 65536) × (j < 16) }
+    requires { j < 16 }
     ensures { result ≡ sourced_colour registers block (map (byte_at ram.now) (addresses_of sources)) j external }
 {
     match sources {
@@ -84,22 +83,22 @@ fn sourced_colour(
 }
 
 // Dot `dot` of a scanline that has begun as `scan` says: its addresses, and the colour of the bytes there.
-fn begun_dot(registers: Registers, ram: &[u8], scan: Scan, dot: usize, external: u8) -> Answer
-    requires { (length ram.now ≡ 65536) × (dot < 736) }
-    ensures { answered result ≡ dot_answer registers ram.now scan dot external }
+#[tactic(auto, using(crate::proofs::DotFromBytes::slot_answer))]
+fn begun_dot(registers: Registers, ram: &Ram, scan: Scan, dot: usize, external: u8) -> Answer
+    requires { dot < 736 }
+    ensures { answered (Ok result) ≡ dot_answer registers ram.now scan dot external }
 {
     let block = scan.block;
-    let at = scan.at;
     let slot = dot / 16;
-    let at = walk::pointers_at(block, at, slot as u16);
+    let at = walk::pointers_at(block, scan.at, slot as u16);
     let sources = fetch::sources_at(ram, block, slot, at, dot % 16);
-    let shown = sourced_colour(registers, ram, block, sources, dot % 16, external);
-    Answer::Colour(shown, sources)
+    let colour = sourced_colour(registers, ram, block, sources, dot % 16, external);
+    Answer { colour, sources }
 }
 
 // The scan as scanline `line` from here begins.
-fn begin_line(registers: Registers, ram: &[u8], scan: Scan, line: usize) -> Scan
-    requires { (length ram.now ≡ 65536) × Formed scan }
+fn begin_line(registers: Registers, ram: &Ram, scan: Scan, line: usize) -> Scan
+    requires { Formed scan }
     ensures { result ≡ begun registers ram.now (scan_after registers ram.now line scan) }
 {
     let reached = walk::walk(registers, ram, scan, line);
@@ -113,31 +112,34 @@ fn is_bad_place(line: usize, dot: usize) -> bool
     1023 < line || 735 < dot
 }
 
-// The refusal of a direct answer, 0 for none: the tests in the order of their numbers.
-fn refusal(state: State, ram: &[u8], line: usize, dot: usize) -> u8
-    ensures { result ≡ direct_refusal state ram.now line dot }
+// The whole RAM, or the refusal of a direct answer: the tests in the order of their numbers.
+#[tactic(auto, unfolding(nick::specs::Refusals::direct_refusal))]
+fn accepted(state: State, ram: &[u8], line: usize, dot: usize) -> Result<&Ram, Refusal>
+    ensures refusal { refusal_in result ≡ direct_refusal state ram.now line dot }
+    ensures same { IfOk result (λ whole. whole.now ≡ ram.now) }
 {
     if refusals::is_ill_formed(state.scan) {
-        return 3;
+        return Err(Refusal::IllFormedState);
     }
-    if refusals::is_not_full(ram) {
-        return 4;
-    }
+    let whole = refusals::whole(ram)?;
     if is_bad_place(line, dot) {
-        return 9;
+        return Err(Refusal::Place);
     }
-    0
+    Ok(whole)
 }
 
 // The direct answer for a dot of scanline `line` from here, `external` being its external byte, 0 if nothing is connected.
-pub fn dot(state: State, ram: &[u8], line: usize, dot: usize, external: u8) -> Answer
+#[tactic(auto, using(nick::proofs::Refusals::answerable, crate::proofs::DotFromBytes::direct_refused, crate::proofs::DotFromBytes::direct_answered))]
+pub fn dot(
+    state: State,
+    ram: &[u8],
+    line: usize,
+    dot: usize,
+    external: u8,
+) -> Result<Answer, Refusal>
     ensures { answered result ≡ direct state ram.now line dot external }
 {
-    let refusal = refusal(state, ram, line, dot);
-    if refusal != 0 {
-        return Answer::Refused(refusal);
-    }
-    let registers = state.registers;
-    let begun = begin_line(registers, ram, state.scan, line);
-    begun_dot(registers, ram, begun, dot, external)
+    let ram = accepted(state, ram, line, dot)?;
+    let begun = begin_line(state.registers, ram, state.scan, line);
+    Ok(begun_dot(state.registers, ram, begun, dot, external))
 }

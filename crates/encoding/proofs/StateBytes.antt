@@ -1,12 +1,13 @@
 -- The state's bytes hold the state: encoding then decoding gives it back.
-use mathlib.Core.Path.{◌≡◌, refl}
-use mathlib.Core.Bool.{Bool, true, false}
+use mathlib.Core.Path.{◌≡◌}
+use mathlib.Core.Bool.{Bool}
 use mathlib.Core.List.{List, [], ◌∷◌}
 use Prim.Native.Nat.{ℕ, ◌+◌, ◌*◌}
+use native.Mathlib.Omega.{arith}
 use lib.ListN.{length}
 use Rattle.lists.specs.Number.{number}
 use Rattle.lists.proofs.Laws.{tab_places}
-use Rattle.nick.specs.Numbers.{is_set, low, high, byte_at}
+use Rattle.nick.specs.Numbers.{is_set, byte_at}
 use Rattle.nick.proofs.Bits.{pair}
 use Rattle.nick.specs.Blocks.{decoded}
 use Rattle.nick.specs.declared.State.{State}
@@ -18,14 +19,7 @@ eight xs h = rw h at (tab_places 0 xs)
 
 -- each flag is in its bit
 pub flag_bits : (p v y : Bool) → (is_set 0 (number p + 2 * number v + 4 * number y) ≡ p) × (is_set 1 (number p + 2 * number v + 4 * number y) ≡ v) × (is_set 2 (number p + 2 * number v + 4 * number y) ≡ y)
-flag_bits true true true = (refl, refl, refl)
-flag_bits true true false = (refl, refl, refl)
-flag_bits true false true = (refl, refl, refl)
-flag_bits true false false = (refl, refl, refl)
-flag_bits false true true = (refl, refl, refl)
-flag_bits false true false = (refl, refl, refl)
-flag_bits false false true = (refl, refl, refl)
-flag_bits false false false = (refl, refl, refl)
+flag_bits p v y = grind arith
 
 -- encoding then decoding gives the state back, for every state that has eight colours, as a state's type says
 pub round_trip : (s : State) → length s.scan.block.col ≡ 8 → state_of (encoded s) ≡ s
@@ -44,31 +38,3 @@ round_trip s h =
       pair s.scan.block.start.ld2,
       eight s.scan.block.col h,
     )
-
--- the bytes put together from the flags and the twelve bytes of the pairs
-pub bytes_put :
-    (s : State) (f n₀ n₁ a₀ a₁ b₀ b₁ l₀ l₁ c₀ c₁ d₀ d₁ : ℕ) →
-    f ≡ flags_of s →
-    n₀ ≡ low s.scan.number →
-    n₁ ≡ high s.scan.number →
-    a₀ ≡ low s.scan.at.ld1 →
-    a₁ ≡ high s.scan.at.ld1 →
-    b₀ ≡ low s.scan.at.ld2 →
-    b₁ ≡ high s.scan.at.ld2 →
-    l₀ ≡ low s.scan.left →
-    l₁ ≡ high s.scan.left →
-    c₀ ≡ low s.scan.block.start.ld1 →
-    c₁ ≡ high s.scan.block.start.ld1 →
-    d₀ ≡ low s.scan.block.start.ld2 →
-    d₁ ≡ high s.scan.block.start.ld2 →
-    s.registers.fixbias ∷ s.registers.border ∷ s.registers.lpl ∷ s.registers.lph
-    ∷ f ∷ 0 ∷ n₀ ∷ n₁ ∷ a₀ ∷ a₁ ∷ b₀ ∷ b₁ ∷ l₀ ∷ l₁ ∷ 0 ∷ 0
-    ∷ s.scan.block.sc ∷ s.scan.block.mb ∷ s.scan.block.lm ∷ s.scan.block.rm
-    ∷ c₀ ∷ c₁ ∷ d₀ ∷ d₁
-    ∷ byte_at s.scan.block.col 0 ∷ byte_at s.scan.block.col 1 ∷ byte_at s.scan.block.col 2
-    ∷ byte_at s.scan.block.col 3 ∷ byte_at s.scan.block.col 4 ∷ byte_at s.scan.block.col 5
-    ∷ byte_at s.scan.block.col 6 ∷ byte_at s.scan.block.col 7 ∷ []
-    ≡ encoded s
-unfolding encoded
-bytes_put s f n₀ n₁ a₀ a₁ b₀ b₁ l₀ l₁ c₀ c₁ d₀ d₁ ef en₀ en₁ ea₀ ea₁ eb₀ eb₁ el₀ el₁ ec₀ ec₁ ed₀ ed₁ =
-    rw (ef, en₀, en₁, ea₀, ea₁, eb₀, eb₁, el₀, el₁, ec₀, ec₁, ed₀, ed₁)

@@ -1,53 +1,53 @@
 // The state as 32 bytes: specs/Encoding.antt has the places.
 #![tactic(auto)]
 
-ghost use Rattle.std.specs.Prelude.{◌≡◌, length};
+ghost use Rattle.std.specs.Prelude.{◌≡◌};
 ghost use Rattle.encoding.specs.Encoding.{encoded, flags_of, scan_of, state_of};
 
 use lists::{bit, high, low, word};
 use nick::{Pointers, Registers, Scan, State};
 
+// How many bytes a state has.
+pub const STATE_BYTES: usize = 32;
+
 // Where the chip stands in the table, from a state's bytes.
-fn decode_scan(bytes: &[u8]) -> Scan
-    requires { length bytes.now ≡ 32 }
+#[tactic(auto, using(lists::proofs::Laws::chunk_at), unfolding(crate::specs::Encoding::scan_of))]
+fn decode_scan(bytes: &[u8; STATE_BYTES]) -> Scan
     ensures { result ≡ scan_of bytes.now }
 {
-    let at = Pointers {
-        ld1: word(bytes[8], bytes[9]),
-        ld2: word(bytes[10], bytes[11]),
-    };
-    let block = blocks::decode(&bytes[16..32]);
+    let (halves, _) = bytes.as_chunks();
     Scan {
         pending: bytes[4] % 2 == 1,
-        block,
+        block: blocks::decode(&halves[1]),
         number: word(bytes[6], bytes[7]),
-        at,
+        at: Pointers {
+            ld1: word(bytes[8], bytes[9]),
+            ld2: word(bytes[10], bytes[11]),
+        },
         left: word(bytes[12], bytes[13]),
     }
 }
 
-// The state that 32 bytes hold.
-pub fn decode_state(bytes: &[u8]) -> State
-    requires { length bytes.now ≡ 32 }
+// The state that 32 bytes hold. Here and below functions and no `From`: both types are of other crates.
+#[tactic(auto, unfolding(crate::specs::Encoding::state_of))]
+pub fn decode_state(bytes: &[u8; STATE_BYTES]) -> State
     ensures { result ≡ state_of bytes.now }
 {
-    let registers = Registers {
-        fixbias: bytes[0],
-        border: bytes[1],
-        lpl: bytes[2],
-        lph: bytes[3],
-    };
-    let scan = decode_scan(bytes);
-    let flags = bytes[4];
     State {
-        registers,
-        scan,
-        virq: flags / 2 % 2 == 1,
-        sync: flags / 4 % 2 == 1,
+        registers: Registers {
+            fixbias: bytes[0],
+            border: bytes[1],
+            lpl: bytes[2],
+            lph: bytes[3],
+        },
+        scan: decode_scan(bytes),
+        virq: bytes[4] / 2 % 2 == 1,
+        sync: bytes[4] / 4 % 2 == 1,
     }
 }
 
 // Bit 0 reload pending, bit 1 VIRQ low, bit 2 sync on.
+#[tactic(auto, unfolding(crate::specs::Encoding::flags_of))]
 fn flags(state: State) -> u8
     ensures { result ≡ flags_of state }
 {
@@ -55,7 +55,8 @@ fn flags(state: State) -> u8
 }
 
 // The bytes of a state.
-pub fn state_bytes(state: State) -> [u8; 32]
+#[tactic(auto, unfolding(crate::specs::Encoding::encoded))]
+pub fn state_bytes(state: State) -> [u8; STATE_BYTES]
     ensures { result ≡ encoded state }
 {
     let registers = state.registers;
@@ -98,10 +99,8 @@ pub fn state_bytes(state: State) -> [u8; 32]
 }
 
 // Writes a state as 32 bytes.
-pub fn encode_state(state: State, out: &mut [u8])
-    requires { length out.old ≡ 32 }
+pub fn encode_state(state: State, out: &mut [u8; STATE_BYTES])
     ensures { out.new ≡ encoded state }
 {
-    let bytes = state_bytes(state);
-    out.copy_from_slice(&bytes);
+    *out = state_bytes(state);
 }

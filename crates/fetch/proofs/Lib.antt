@@ -1,2 +1,1 @@
-pub mod FontAddresses
 pub mod SlotDots

@@ -1,38 +1,28 @@
 -- What a slot fetched shows as the rules say, in every mode.
-use Rattle.std.proofs.Common.{◌≡◌, ℕ, ◌-◌, ◌/◌, ◌%◌, ◌<◌, ◌≤◌, Bool, true, false, cond, eqb, ltb, List, [], map, length, get_or, sym, refl, ap, ◌∙◌, arith, le-ltb, lt-ltb}
+use Rattle.std.proofs.Common.{◌≡◌, ℕ, ◌-◌, ◌/◌, ◌%◌, ◌<◌, ◌≤◌, Bool, true, false, cond, List, [], map, length, get_or, sym, refl, ap, ◌∙◌, arith, le-ltb, lt-ltb}
 use native.Mathlib.Decide.{dec_lt}
-use Rattle.nick.specs.Numbers.{byte_at}
+use Rattle.nick.specs.Numbers.{up, byte_at}
 use Rattle.nick.specs.Slots.{Mode, VSYNC, PIXEL, ATTR, CH, UNUSED, LPIXEL, font_address, slot_fetches, slot_pointers, dot_addresses}
 use Rattle.nick.specs.Colour.{two, colours_of, graphics_pixel, pixel_of, character_added, attribute_pixel, dot_in}
 use Rattle.nick.specs.External.{mixed_colour, dot_colour}
-use Rattle.nick.specs.Sync.{syncs}
 use Rattle.nick.specs.declared.Registers.{Registers}
 use Rattle.nick.specs.declared.Pointers.{Pointers}
 use Rattle.nick.specs.declared.Block.{Block}
 use Rattle.nick.specs.declared.Pixel.{Pixel}
-use Rattle.colour.specs.Cell.{graphics_cell, cell_pixel, palette_number}
-use Rattle.colour.proofs.Cells.{graphics_pixel_lem, character_pixel, attribute_pixel_lem, sharing_halves, cell_below}
-use Rattle.fetch.specs.Fetches.{fetched_in, fetched_at, slot_pixel}
-use Rattle.fetch.specs.declared.Fetched.{Fetched}
-
--- a slot's palette numbers are below 16, whatever its cells hold
-pub slot_below : (f : Fetched) (j : ℕ) → palette_number (slot_pixel f j) < 16
-slot_below f j =
-    chosen f.halves (ltb j 8) (cell_pixel f.first j) (cell_pixel f.second (j - 8)) (cell_pixel f.first (j / 2))
-    (cell_below f.first j) (cell_below f.second (j - 8)) (cell_below f.first (j / 2))
-  where
-    chosen : (t u : Bool) (x y z : Pixel) → palette_number x < 16 → palette_number y < 16 → palette_number z < 16 → palette_number (cond t (cond u x y) z) < 16
-    chosen true true x y z hx hy hz = hx
-    chosen true false x y z hx hy hz = hy
-    chosen false u x y z hx hy hz = hz
+use Rattle.colour.specs.Cell.{graphics_cell, cell_pixel}
+use Rattle.colour.proofs.Cells.{graphics_pixel_lem, character_pixel, attribute_pixel_lem, sharing_halves}
+use Rattle.fetch.specs.Fetches.{fetched_at, halves_pixel, slot_dot}
 
 module _ (g : Registers) (ram : List ℕ) (b : Block) (p : Pointers) where
   -- the pixel of a PIXEL slot: its byte by its half of the slot, its place in the byte by the rest
   pub pixel_dot : (j : ℕ) → j < 16
-      → slot_pixel (fetched_in PIXEL ram b p) j ≡ cell_pixel (graphics_cell b (byte_at ram (get_or (slot_fetches PIXEL ram p) (j / 8) 0))) (j % 8)
+      → halves_pixel (graphics_cell b (byte_at ram p.ld1)) (graphics_cell b (byte_at ram (up 1 p.ld1))) j
+      ≡ cell_pixel (graphics_cell b (byte_at ram (get_or (slot_fetches PIXEL ram p) (j / 8) 0))) (j % 8)
   pixel_dot j h = go (dec_lt j 8)
     where
-      go : Dec (j < 8) → slot_pixel (fetched_in PIXEL ram b p) j ≡ cell_pixel (graphics_cell b (byte_at ram (get_or (slot_fetches PIXEL ram p) (j / 8) 0))) (j % 8)
+      go : Dec (j < 8)
+          → halves_pixel (graphics_cell b (byte_at ram p.ld1)) (graphics_cell b (byte_at ram (up 1 p.ld1))) j
+          ≡ cell_pixel (graphics_cell b (byte_at ram (get_or (slot_fetches PIXEL ram p) (j / 8) 0))) (j % 8)
       go (yes l) =
           let half : j / 8 ≡ 0 = omega arith in
           let rest : j % 8 ≡ j = omega arith in
@@ -44,7 +34,7 @@ module _ (g : Registers) (ram : List ℕ) (b : Block) (p : Pointers) where
 
   -- a dot of a slot in a video mode
   pub mode_dot : (active : Bool) (m : Mode) (j e : ℕ) → j < 16 → byte_at ram p.ld1 < 256
-      → cond (eqb (fetched_at active m ram b p).count 0) (cond (syncs m) 0 g.border) (mixed_colour g b (slot_pixel (fetched_at active m ram b p) j) e)
+      → slot_dot g b m (fetched_at active m ram b p).cells j e
       ≡ dot_colour g b (dot_in m active b (colours_of b) (map (byte_at ram) (dot_addresses m ram p j)) j) e
   mode_dot false VSYNC j e h l = refl
   mode_dot false PIXEL j e h l = refl

@@ -4,8 +4,7 @@ use mathlib.Core.List.{List}
 use Prim.Native.Nat.{ℕ}
 use borrow.Author.Tests.{eq-eqb, ne_eqb}
 use Rattle.nick.specs.declared.State.{State}
-use Rattle.nick.specs.declared.Written.{Written}
-use Rattle.files.specs.Writes.{written_by, after_writes}
+use Rattle.files.specs.Writes.{Written, written_by, after_writes}
 
 module _ {A : Type 0} (bytes : List ℕ) (told : ℕ → A) (done : State → A) (w : Written) (is : w ≡ written_by bytes) where
   pub writes_refused : (w.refusal ≡ 0 → ⊥) → after_writes bytes told done ≡ told w.refusal

@@ -1,3 +1,4 @@
 pub mod Outputs
+pub mod Reading
 pub mod Same
 pub mod Writes

@@ -1,13 +1,11 @@
 -- What a painting program makes of its arguments, and of the records that it does not leave painted.
-use Rattle.std.specs.Prelude.{ℕ, min, max, Bool, ◌||◌, List, length, replicate}
-use Rattle.text.specs.declared.number.Number.{Number}
-use Rattle.text.specs.declared.number.Number.TheVariants.{Value, Missing}
+use Rattle.std.specs.Prelude.{ℕ, Option, Some, None, min, max, Bool, ◌||◌, List, length, replicate}
 use Rattle.files.specs.declared.outputs.Named.{Named}
 
 -- the lines to stamp: those asked for, but at least one and at most 65,536; one where that is not known
-abbrev pub lines_stamped : Number → ℕ
-lines_stamped (Value n) = min (max n 1) 65536
-lines_stamped Missing = 1
+abbrev pub lines_stamped : Option ℕ → ℕ
+lines_stamped (Some n) = min (max n 1) 65536
+lines_stamped None = 1
 
 -- 255 over every byte
 abbrev pub stamps : List ℕ → List ℕ

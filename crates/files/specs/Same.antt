@@ -1,7 +1,9 @@
 -- Which files are one.
-use Rattle.std.specs.Prelude.{Bool, ◌&&◌, eqb}
+use Rattle.std.specs.Prelude.{Option, Some, None, Bool, false, ◌&&◌, eqb}
 use Rattle.files.specs.declared.same.File.{File}
 
 -- on one device and under one number, and both are there
-abbrev pub is_one : File → File → Bool
-is_one a b = (eqb a.device b.device && eqb a.number b.number) && (a.is_found && b.is_found)
+abbrev pub is_one : Option File → Option File → Bool
+is_one (Some a) (Some b) = eqb a.device b.device && eqb a.number b.number
+is_one (Some a) None = false
+is_one None b = false

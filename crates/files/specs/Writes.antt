@@ -2,7 +2,11 @@
 use Rattle.std.specs.Prelude.{ℕ, zero, suc, ◌+◌, ◌*◌, ◌/◌, min, cond, List, eqb, length, get_or}
 use Rattle.nick.specs.Registers.{fresh_state, write_refusal, written}
 use Rattle.nick.specs.declared.State.{State}
-use Rattle.nick.specs.declared.Written.{Written}
+
+-- what writes leave: the number of a refusal, 0 for none, and the state
+pub record Written : Type 0 where
+  pub refusal : ℕ
+  pub state : State
 
 -- "Where several apply, the smallest number is given."
 unfoldable pub given : ℕ → ℕ → ℕ

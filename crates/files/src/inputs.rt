@@ -1,8 +1,9 @@
 // RAM and register writes, from the files that a program's first two arguments name.
-ghost use Rattle.std.specs.Prelude.{◌≡◌, ◌%◌, ◌≤◌, not, ◌&&◌, eqb, length};
+ghost use Rattle.std.specs.Prelude.{◌≡◌, ◌%◌, ◌≤◌, cond, eqb, length, IfOk};
 
+use crate::error::Error;
 use crate::pair::read_pair;
-use crate::print::{print_unreadable, print_usage};
+use nick::RAM_BYTES;
 use std::env::Env;
 use std::rt::Files;
 
@@ -11,42 +12,38 @@ pub const RAM: usize = 1;
 
 pub const WRITES: usize = 2;
 
-// Whether both files are there to be used, and how much was read of each.
-#[derive(Clone, Copy)]
-pub struct Inputs {
-    pub is_read: bool,
-    pub ram: usize,
-    pub writes: usize,
+// The room for RAM and for WRITES: one byte more than is allowed, so that a longer file shows.
+pub const RAM_ROOM: usize = RAM_BYTES + 1;
+
+pub const WRITES_ROOM: usize = 65537;
+
+// What was read of RAM and WRITES.
+#[derive(Clone, Copy, PartialEq, Eq)]
+pub struct Inputs<'a> {
+    pub ram: &'a [u8],
+    pub writes: &'a [u8],
 }
 
-// Prints which file could not be read, or how the program is used where WRITES is not pairs of bytes; answers whether neither.
-fn check_inputs(rt: &(impl Env + Print), unread: usize, writes: usize, usage: &[u8]) -> bool
-    ensures { result ≡ (eqb unread 0 && not (eqb (writes % 2) 1)) }
+// The register writes, where they are pairs of bytes.
+fn paired(writes: &[u8]) -> Result<&[u8], Error>
+    ensures { result ≡ cond (eqb (length writes.now % 2) 1) (Err Error.Usage) (Ok writes.entry) }
 {
-    if unread != 0 {
-        print_unreadable(rt, unread);
-        return false;
+    if writes.len() % 2 == 1 {
+        return Err(Error::Usage);
     }
-    if writes % 2 == 1 {
-        print_usage(rt, usage);
-        return false;
-    }
-    true
+    Ok(writes)
 }
 
-// Reads RAM and WRITES, and prints why they cannot be used where they cannot.
-pub fn read_inputs(
-    rt: &(impl Files + Env + Print),
-    ram: &mut [u8],
-    writes: &mut [u8],
-    usage: &[u8],
-) -> Inputs
-    ensures { (result.ram ≤ length ram.old) × (result.writes ≤ length writes.old) }
+// Reads RAM and WRITES.
+pub fn read_inputs<'a>(
+    rt: &(impl Files + Env),
+    ram: &'a mut [u8],
+    writes: &'a mut [u8],
+) -> Result<Inputs<'a>, Error>
+    ensures lengths { IfOk result (λ read. (length read.ram.now ≤ length ram.old) × (length read.writes.now ≤ length writes.old)) }
+    ensures pairs { IfOk result (λ read. length read.writes.now % 2 ≡ 0) }
 {
-    let read = read_pair(rt, RAM, WRITES, ram, writes);
-    Inputs {
-        is_read: check_inputs(rt, read.unread, read.second, usage),
-        ram: read.first,
-        writes: read.second,
-    }
+    let (ram, writes) = read_pair(rt, RAM, WRITES, ram, writes)?;
+    let writes = paired(writes)?;
+    Ok(Inputs { ram, writes })
 }

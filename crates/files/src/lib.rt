@@ -2,7 +2,7 @@
 #![tactic(auto)]
 
 mod argument;
-mod colour_words;
+mod error;
 mod inputs;
 mod outputs;
 mod pair;
@@ -10,17 +10,10 @@ mod print;
 mod same;
 mod writes;
 
-pub use argument::{
-    Contents, argument_count, is_given, number_argument, read_argument, read_optional,
-    write_argument, write_repeated,
-};
-pub use colour_words::{print_byte, print_colour};
-pub use inputs::{Inputs, RAM, WRITES, read_inputs};
-pub use outputs::{Places, begin, stamp_lines, write_outputs};
-pub use pair::{Pair, check_read, read_pair};
-pub use print::{
-    print_bytes, print_decimal, print_painted, print_refusal, print_refusal_at, print_refusal_of,
-    print_unreadable, print_unwritten, print_usage,
-};
-pub use same::is_same_file;
+pub use argument::{argument_count, is_given, number_argument, read_optional};
+pub use error::Error;
+pub use inputs::{Inputs, RAM, RAM_ROOM, WRITES, WRITES_ROOM, read_inputs};
+pub use outputs::{DOTS_MOST, Places, RECORDS_MOST, begin, stamp_lines, write_outputs};
+pub use pair::read_pair;
+pub use print::{print_colour, print_error, print_painted, print_refusal_of};
 pub use writes::apply_writes;

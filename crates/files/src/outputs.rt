@@ -1,19 +1,23 @@
 // The files that a painting program writes, DOTS and RECORDS. RECORDS is stamped first and written last, so that a run that is
 // refused, fails or dies leaves a stamped one. Where an output is one of the inputs, by whatever name, nothing is touched.
-ghost use Rattle.std.specs.Prelude.{◌≡◌, ◌≤◌, cond};
+ghost use Rattle.std.specs.Prelude.{◌≡◌, ◌≤◌, cond, is_ok};
 ghost use Rattle.files.specs.Outputs.{is_clash, is_input, lines_stamped, stamps};
 
 use crate::argument::{argument_count, is_given, write_argument, write_repeated};
-use crate::print::{print_unwritten, print_usage};
+use crate::error::Error;
 use crate::same::is_same_file;
 use nick::RECORD_BYTES;
 use std::env::Env;
 use std::rt::Files;
-use text::Number;
+
+// The bytes of dots and of records of the most lines that are painted.
+pub const DOTS_MOST: usize = 736 * 1024;
+
+pub const RECORDS_MOST: usize = RECORD_BYTES * 1024;
 
 // Which arguments name the files: RAM; what is done to the chip, register writes or a script; the outputs; and EXTERNAL, which is the
 // last and may be absent.
-#[derive(Clone, Copy)]
+#[derive(Clone, Copy, PartialEq, Eq)]
 pub struct Places {
     pub ram: usize,
     pub commands: usize,
@@ -23,7 +27,7 @@ pub struct Places {
 }
 
 // Which inputs are the file that an output names.
-#[derive(Clone, Copy)]
+#[derive(Clone, Copy, PartialEq, Eq)]
 struct Named {
     ram: bool,
     commands: bool,
@@ -31,38 +35,28 @@ struct Named {
 }
 
 // The lines to stamp: those asked for, but at least one and at most 65,536.
-fn lines_stamped(asked: Number) -> usize
+fn lines_stamped(asked: Option<usize>) -> usize
     ensures { (result ≡ lines_stamped asked) × (result ≤ 65536) }
 {
-    let Number::Value(n) = asked else {
-        return 1;
-    };
-    if n == 0 {
-        return 1;
-    }
-    if 65536 < n {
-        return 65536;
-    }
-    n
+    asked.unwrap_or(1).clamp(1, 65536)
 }
 
 // Stamps records.
 fn stamp(records: &mut [u8])
     ensures { records.new ≡ stamps records.old }
 {
-    lists::fill(records, 255);
+    records.fill(255);
 }
 
-// Writes RECORDS with the lines asked for stamped, line by line, so that little room is needed. Answers whether all are written; if
-// not, it prints so.
-pub fn stamp_lines(rt: &(impl Files + Env + Print), places: Places, asked: Number) -> bool {
+// Writes RECORDS with the lines asked for stamped, line by line, so that little room is needed.
+pub fn stamp_lines(
+    rt: &(impl Files + Env),
+    places: Places,
+    asked: Option<usize>,
+) -> Result<(), Error> {
     let mut record = [0u8; RECORD_BYTES];
     stamp(&mut record);
-    if write_repeated(rt, places.records, &record, lines_stamped(asked)) {
-        return true;
-    }
-    print_unwritten(rt, places.records);
-    false
+    write_repeated(rt, places.records, &record, lines_stamped(asked))
 }
 
 // Compares an output with each input.
@@ -78,10 +72,7 @@ fn inputs_named(rt: &(impl Files + Env), places: Places, output: usize) -> Named
 fn is_input(output: Named) -> bool
     ensures { result ≡ is_input output }
 {
-    if output.ram {
-        return true;
-    }
-    output.commands || output.external
+    output.ram || output.commands || output.external
 }
 
 // Whether the run would write over an input.
@@ -91,56 +82,43 @@ fn is_clash(dots: Named, records: Named) -> bool
     is_input(dots) || is_input(records)
 }
 
-// Stamps RECORDS for the lines asked for, unless an output is an input. Answers whether the run goes on; if not, it prints why.
-pub fn begin(rt: &(impl Files + Env + Print), places: Places, asked: Number, usage: &[u8]) -> bool {
+// Stamps RECORDS for the lines asked for, unless an output is an input.
+pub fn begin(rt: &(impl Files + Env), places: Places, asked: Option<usize>) -> Result<(), Error> {
     let count = argument_count(rt);
-    if count <= places.records {
-        print_usage(rt, usage);
-        return false;
+    if count <= places.records
+        || is_clash(
+            inputs_named(rt, places, places.dots),
+            inputs_named(rt, places, places.records),
+        )
+    {
+        return Err(Error::Usage);
     }
-    if is_clash(
-        inputs_named(rt, places, places.dots),
-        inputs_named(rt, places, places.records),
-    ) {
-        print_usage(rt, usage);
-        return false;
-    }
-    if !stamp_lines(rt, places, asked) {
-        return false;
-    }
+    stamp_lines(rt, places, asked)?;
     if places.external < count - 1 || is_same_file(rt, places.dots, places.records) {
-        print_usage(rt, usage);
-        return false;
+        return Err(Error::Usage);
     }
-    true
+    Ok(())
 }
 
 // Writes RECORDS; where that fails, it is stamped again.
-fn write_records(rt: &(impl Files + Env), places: Places, records: &mut [u8]) -> bool
-    ensures { records.new ≡ cond result records.old (stamps records.old) }
+fn write_records(rt: &(impl Files + Env), places: Places, records: &mut [u8]) -> Result<(), Error>
+    ensures { records.new ≡ cond (is_ok result) records.old (stamps records.old) }
 {
-    if write_argument(rt, places.records, records) {
-        return true;
+    let written = write_argument(rt, places.records, records);
+    if written.is_err() {
+        stamp(records);
+        let _ = write_argument(rt, places.records, records);
     }
-    stamp(records);
-    write_argument(rt, places.records, records);
-    false
+    written
 }
 
-// Writes DOTS, then RECORDS, and answers whether both are written; if not, it prints which is not.
+// Writes DOTS, then RECORDS.
 pub fn write_outputs(
-    rt: &(impl Files + Env + Print),
+    rt: &(impl Files + Env),
     places: Places,
     dots: &[u8],
     records: &mut [u8],
-) -> bool {
-    if !write_argument(rt, places.dots, dots) {
-        print_unwritten(rt, places.dots);
-        return false;
-    }
-    if !write_records(rt, places, records) {
-        print_unwritten(rt, places.records);
-        return false;
-    }
-    true
+) -> Result<(), Error> {
+    write_argument(rt, places.dots, dots)?;
+    write_records(rt, places, records)
 }

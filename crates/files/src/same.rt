@@ -1,84 +1,53 @@
 // Whether two arguments name one file.
-ghost use Rattle.std.specs.Prelude.{◌≡◌, false};
+ghost use Rattle.std.specs.Prelude.{◌≡◌};
 ghost use Rattle.files.specs.Same.{is_one};
 
-use crate::argument::{PATH_MAX, copy_argument, is_same_argument};
+use crate::argument::{PATH_MAX, argument_in, is_same_argument};
 use std::env::Env;
 use std::fs;
-use std::fs::Metadata;
 use std::os::unix::fs::MetadataExt;
 use std::rt::Files;
 
 // What tells a file from every other: the device that it is on, and its number there.
-#[derive(Clone, Copy)]
+#[derive(Clone, Copy, PartialEq, Eq)]
 struct File {
-    is_found: bool,
     device: u64,
     number: u64,
 }
 
-// No file.
-fn missing() -> File
-    ensures { result.is_found ≡ false }
-{
-    File {
-        is_found: false,
-        device: 0,
-        number: 0,
-    }
-}
-
-// What the operating system tells of the file at a path. Of a path that is not UTF-8 it is not asked.
-fn told_of(rt: &impl Files, path: &[u8]) -> Option<Metadata> {
-    let name = str::from_utf8(path).ok()?;
-    fs::metadata(rt, name).ok()
-}
-
-// The file at a path.
-fn file_at(rt: &impl Files, path: &[u8]) -> File {
-    match told_of(rt, path) {
-        Some(told) => File {
-            is_found: true,
-            device: told.dev(),
-            number: told.ino(),
-        },
-        None => missing(),
-    }
+// The file at a path, as the operating system tells. Of a path that is not UTF-8 it is not asked.
+fn file_at(rt: &impl Files, path: &[u8]) -> Option<File> {
+    let told = fs::metadata(rt, str::from_utf8(path).ok()?).ok()?;
+    Some(File {
+        device: told.dev(),
+        number: told.ino(),
+    })
 }
 
 // The file that argument i names. An argument that is empty, of 4,096 bytes or more, or not UTF-8 names none.
 #[inline(never)]
-fn file_of(rt: &(impl Files + Env), i: usize) -> File {
+fn file_of(rt: &(impl Files + Env), i: usize) -> Option<File> {
     let mut path = [0u8; PATH_MAX];
-    let n = copy_argument(rt, i, &mut path);
-    if n == 0 {
-        return missing();
+    let path = argument_in(rt, i, &mut path);
+    if path.is_empty() || path.len() == PATH_MAX {
+        return None;
     }
-    if n == PATH_MAX {
-        return missing();
-    }
-    file_at(rt, &path[..n])
+    file_at(rt, path)
 }
 
 // Whether two files are one.
-fn is_one(a: File, b: File) -> bool
+fn is_one(a: Option<File>, b: Option<File>) -> bool
     ensures { result ≡ is_one a b }
 {
-    if a.device != b.device {
-        return false;
-    }
-    if a.number != b.number {
-        return false;
-    }
-    a.is_found && b.is_found
+    a.is_some() && a == b
 }
 
 // Whether argument i is a name that is not UTF-8, of which the operating system is not asked.
 #[inline(never)]
 fn is_unknown(rt: &impl Env, i: usize) -> bool {
     let mut path = [0u8; PATH_MAX];
-    let n = copy_argument(rt, i, &mut path);
-    n < PATH_MAX && str::from_utf8(&path[..n]).is_err()
+    let path = argument_in(rt, i, &mut path);
+    path.len() < PATH_MAX && str::from_utf8(path).is_err()
 }
 
 // Whether two arguments name one file, by the same text or, where the file is there, by two names, links among them. A name that

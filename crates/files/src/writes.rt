@@ -1,46 +1,35 @@
 // Register writes from a file: pairs of bytes, a port and a value.
 ghost use Rattle.std.specs.Prelude.{◌≡◌};
-ghost use Rattle.files.specs.Writes.{given as Writes·given, written_next, written_by};
+ghost use Rattle.nick.specs.Refusals.{refusal_in};
+ghost use Rattle.files.specs.Writes.{given as Writes·given, written_by};
 
-use nick::Written;
+use nick::{Refusal, State};
 
-// The refusal that is given where two calls gave these: the smaller number, 0 standing for none.
+// What is given where two calls gave these: of two refusals the one of the smaller number. The numbers are compared as the rule says; a
+// lemma on `min` would have to cite what is generated for the derived order.
 #[tactic(auto, unfolding(crate::specs::Writes::given))]
-fn given(a: u8, b: u8) -> u8
-    ensures { result ≡ Writes·given a b }
+fn given(a: Result<(), Refusal>, b: Result<(), Refusal>) -> Result<(), Refusal>
+    ensures { refusal_in result ≡ Writes·given (refusal_in a) (refusal_in b) }
 {
-    if a == 0 {
-        return b;
-    }
-    if b == 0 {
-        return a;
-    }
-    if a < b { a } else { b }
-}
-
-// One write more.
-#[tactic(auto, unfolding(crate::specs::Writes::written_next))]
-fn write_next(written: Written, port: u8, value: u8) -> Written
-    ensures { result ≡ written_next written port value }
-{
-    let next = nick::write(written.state, port as u32, value);
-    let state = next.state;
-    Written {
-        refusal: given(written.refusal, next.refusal),
-        state,
+    match (a, b) {
+        (Ok(()), b) => b,
+        (a, Ok(())) => a,
+        (Err(a), Err(b)) => Err(if u8::from(a) < u8::from(b) { a } else { b }),
     }
 }
 
-// Applies the writes in order, from the fresh state, and gives the smallest refusal of them. An odd byte is left out.
-pub fn apply_writes(bytes: &[u8]) -> Written
-    ensures { result ≡ written_by bytes.now }
+// Applies the writes in order, from the fresh state: the state that they leave, and the smallest refusal of them. An odd byte is left
+// out.
+#[tactic(auto, using(crate::proofs::Pairs::pair_at), unfolding(crate::specs::Writes::written_next))]
+pub fn apply_writes(bytes: &[u8]) -> (State, Result<(), Refusal>)
+    ensures state { result.0 ≡ (written_by bytes.now).state }
+    ensures refusal { refusal_in result.1 ≡ (written_by bytes.now).refusal }
 {
-    let state = nick::fresh();
-    let mut written = Written { refusal: 0, state };
-    let mut n: usize = 0;
-    while n < bytes.len() / 2 {
-        written = write_next(written, bytes[2 * n], bytes[2 * n + 1]);
-        n += 1;
+    let mut state = nick::fresh();
+    let mut written = Ok(());
+    let (pairs, _) = bytes.as_chunks::<2>();
+    for &[port, value] in pairs {
+        written = given(written, nick::write(&mut state, u32::from(port), value));
     }
-    written
+    (state, written)
 }

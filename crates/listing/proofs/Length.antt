@@ -1,29 +1,27 @@
 -- A listing's length: at most 16 bytes for the first line, 79 for each block and 9 for the last line.
-use mathlib.Core.Path.{◌≡◌, refl}
 use mathlib.Core.Bool.{Bool, true, false}
 use mathlib.Core.List.{List, [], ◌∷◌, ◌++◌}
 use Prim.Native.Nat.{ℕ, zero, suc, ◌+◌, ◌-◌, ◌*◌, ◌%◌, ◌<◌, ◌≤◌}
 use native.Mathlib.Omega.{arith}
-use lib.ListN.{length, get_or, take, drop, length-append}
+use lib.ListN.{length, take, drop, length-append}
 use lib.Seq.{get_or-drop}
 use Rattle.lists.specs.Number.{number}
+use Rattle.nick.specs.Numbers.{Bytes}
 use Rattle.nick.specs.Registers.{base_number}
 use Rattle.nick.specs.Blocks.{decoded, block_at, vint, vres, reload}
-use Rattle.nick.specs.Slots.{mode_number}
+use Rattle.nick.specs.Slots.{mode_number, mode_numbered}
 use Rattle.nick.specs.Colour.{colour_number}
-use Rattle.nick.specs.Listing.{mode_name, colour_count, numbers_after_name, block_line, block_lines, blocks_listed, listing}
+use Rattle.nick.specs.Listing.{colour_count, numbers_after_name, block_line, block_lines, blocks_listed, listing}
 use Rattle.text.specs.Decimal.{TAB, decimal, tabbed}
 use Rattle.lists.proofs.Below.{below_eight}
 use Rattle.nick.specs.declared.Registers.{Registers}
+use Rattle.listing.specs.Modes.{name_of}
 use Rattle.listing.specs.WrittenLines.{line_after, word_line}
 use Rattle.text.proofs.Decimal.{decimal_length}
-use Rattle.listing.proofs.Pieces.{line_length, word_length, header, end_tab, header_text, end_text}
+use Rattle.listing.proofs.Pieces.{header, ending, line_length, word_length, listing_text}
 use Rattle.listing.proofs.BlocksLeft.{listed_limit}
 
--- every place of a list holds a byte, of a part of the list too
-abbrev pub Bytes : List ℕ → Type 0
-Bytes xs = (i : ℕ) → get_or xs i 0 < 256
-
+-- bytes of a part of a list of bytes
 bytes_take : (n : ℕ) (xs : List ℕ) → Bytes xs → Bytes (take n xs)
 bytes_take zero xs h i = omega arith
 bytes_take (suc n) [] h i = omega arith
@@ -45,6 +43,7 @@ with_tabs [] = 0
 with_tabs (k ∷ ks) = suc k + with_tabs ks
 
 tabbed_bound : (ks ns : List ℕ) → Digits ks ns → length (tabbed ns) ≤ with_tabs ks
+unfolding tabbed
 tabbed_bound [] [] h = omega arith
 tabbed_bound [] (n ∷ ns) h = absurd h
 tabbed_bound (k ∷ ks) [] h = absurd h
@@ -63,9 +62,9 @@ colour_digits (suc (suc zero)) = decimal_length 2 16 (omega arith)
 colour_digits (suc (suc (suc zero))) = decimal_length 2 256 (omega arith)
 colour_digits (suc (suc (suc (suc n)))) = decimal_length 2 0 (omega arith)
 
-name_bound : (mode : ℕ) → mode < 8 → length (mode_name mode) ≤ 6
-unfolding mode_name
-name_bound = below_eight (λ m. length (mode_name m) ≤ 6) (omega arith) (omega arith) (omega arith) (omega arith) (omega arith) (omega arith) (omega arith) (omega arith)
+name_bound : (mode : ℕ) → mode < 8 → length (name_of (mode_numbered mode)) ≤ 6
+unfolding name_of mode_numbered
+name_bound = below_eight (λ m. length (name_of (mode_numbered m)) ≤ 6) (omega arith) (omega arith) (omega arith) (omega arith) (omega arith) (omega arith) (omega arith) (omega arith)
 
 byte_digits : (n : ℕ) → n < 256 → length (decimal n) ≤ 3
 byte_digits n h = decimal_length 2 n (omega arith)
@@ -129,21 +128,12 @@ pub line_bound : (n : ℕ) (bytes : List ℕ) → n < 4096 → Bytes bytes → l
 line_bound n bytes h b =
     omega (
       arith,
-      line_length n (decoded bytes) (numbers_after_name (decoded bytes)) refl,
+      line_length n (decoded bytes),
       decimal_length 4 (16 * n) (omega arith),
       decimal_length 2 (256 - (decoded bytes).sc) (omega arith),
       name_bound (mode_number (decoded bytes)) (omega arith),
       numbers_bound bytes b,
     )
-
--- a listing's three parts, with the base number and the number of blocks by any name
-module _ (g : Registers) (ram : List ℕ) (base count : ℕ) (is_base : base ≡ base_number g) (is-count : count ≡ blocks_listed g ram) where
-  pub listing_text : listing g ram ≡ word_line header (16 * base) ++ block_lines g ram count ++ word_line end_tab count
-  unfolding listing
-  listing_text = rw (← is-count, header_text g base is_base, end_text count)
-
-  pub listing_length : length (listing g ram) ≡ length (word_line header (16 * base)) + length (block_lines g ram count) + length (word_line end_tab count)
-  listing_length = rw listing_text (simp length-append)
 
 module _ (g : Registers) (ram : List ℕ) (low : g.lpl < 256) (bytes : Bytes ram) where
   line_at_bound : (k : ℕ) → length (line_after g ram k) ≤ 79
@@ -161,13 +151,14 @@ module _ (g : Registers) (ram : List ℕ) (low : g.lpl < 256) (bytes : Bytes ram
   listing_bound =
       let base = base_number g in
       let count = blocks_listed g ram in
-      omega (
+      rw listing_text (omega (
         arith,
-        listing_length g ram base count refl refl,
+        length-append (word_line header (16 * base) ++ block_lines g ram count) (word_line ending count),
+        length-append (word_line header (16 * base)) (block_lines g ram count),
         word_length header (16 * base),
         decimal_length 4 (16 * base) (omega arith),
         lines_bound count,
-        word_length end_tab count,
+        word_length ending count,
         decimal_length 3 count (omega (arith, listed_limit g ram)),
         listed_limit g ram,
-      )
+      ))

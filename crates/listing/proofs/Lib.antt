@@ -1,5 +1,4 @@
 pub mod Pieces
-pub mod FirstLines
-pub mod BlocksLeft
 pub mod Length
-pub mod ListAnswers
+pub mod BlocksLeft
+pub mod FirstLines

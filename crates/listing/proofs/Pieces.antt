@@ -1,99 +1,72 @@
 -- Laws on the pieces of a block's line: names, colours and tabbed numbers, and the line's length.
-use mathlib.Core.Path.{◌≡◌, refl}
-use mathlib.Core.List.{List, [], ◌∷◌, ◌++◌}
-use Prim.Native.Nat.{ℕ, suc, ◌+◌, ◌-◌, ◌*◌, ◌<◌, ◌≤◌}
+use mathlib.Core.Path.{◌≡◌, refl, sym}
+use mathlib.Core.List.{List, [], ◌∷◌, ◌++◌, append_assoc}
+use Prim.Native.Nat.{ℕ, zero, suc, ◌+◌, ◌-◌, ◌*◌, ◌<◌}
 use native.Mathlib.Omega.{arith}
-use lib.ListN.{length, get_or, take, drop, length-append}
+use lib.ListN.{length, length-append}
 use Rattle.lists.specs.Number.{number}
-use Rattle.lists.proofs.Laws.{tab_places}
 use Rattle.nick.specs.Registers.{base_number}
 use Rattle.nick.specs.Blocks.{vint, vres, reload}
-use Rattle.nick.specs.Slots.{mode_number}
-use Rattle.nick.specs.Colour.{colour_number}
-use Rattle.nick.specs.Listing.{header_word, end_word, mode_name, colour_count, numbers_after_name, block_line, header_line, end_line}
+use Rattle.nick.specs.Slots.{mode_number, mode_numbered, mode_of}
+use Rattle.nick.specs.Colour.{colour_number, colours_numbered, colours_of}
+use Rattle.nick.specs.Listing.{header_word, end_word, mode_name, colour_count, numbers_after_name, block_line, block_lines, blocks_listed, header_line, end_line, listing}
 use Rattle.text.specs.Decimal.{TAB, LF, decimal, tabbed}
 use Rattle.lists.proofs.Below.{below_eight}
 use Rattle.nick.specs.declared.Registers.{Registers}
 use Rattle.nick.specs.declared.Block.{Block}
-use Rattle.text.specs.Writing.{Room, Wrote}
 use Rattle.text.proofs.Fields.{field}
 use Rattle.listing.specs.WrittenLines.{word_line}
+use Rattle.listing.specs.Modes.{name_of, count_of}
 
--- the names in six bytes each, and how many of the six are the name
-abbrev pub names : List ℕ
-names =
-    86 ∷ 83 ∷ 89 ∷ 78 ∷ 67 ∷ 32
-    ∷ 80 ∷ 73 ∷ 88 ∷ 69 ∷ 76 ∷ 32
-    ∷ 65 ∷ 84 ∷ 84 ∷ 82 ∷ 32 ∷ 32
-    ∷ 67 ∷ 72 ∷ 50 ∷ 53 ∷ 54 ∷ 32
-    ∷ 67 ∷ 72 ∷ 49 ∷ 50 ∷ 56 ∷ 32
-    ∷ 67 ∷ 72 ∷ 54 ∷ 52 ∷ 32 ∷ 32
-    ∷ 85 ∷ 78 ∷ 85 ∷ 83 ∷ 69 ∷ 68
-    ∷ 76 ∷ 80 ∷ 73 ∷ 88 ∷ 69 ∷ 76
-    ∷ []
+-- the name and the number of colours of a numbered mode
+name_numbered : (n : ℕ) → n < 8 → name_of (mode_numbered n) ≡ mode_name n
+unfolding name_of mode_name mode_numbered
+name_numbered = below_eight (λ n. name_of (mode_numbered n) ≡ mode_name n) refl refl refl refl refl refl refl refl
 
-abbrev pub name_length : ℕ → ℕ
-name_length mode = get_or (5 ∷ 5 ∷ 4 ∷ 5 ∷ 5 ∷ 4 ∷ 6 ∷ 6 ∷ []) mode 0
+count_numbered : (n : ℕ) → n < 4 → count_of (colours_numbered n) ≡ colour_count n
+unfolding count_of colour_count colours_numbered
+count_numbered zero h = refl
+count_numbered (suc zero) h = refl
+count_numbered (suc (suc zero)) h = refl
+count_numbered (suc (suc (suc zero))) h = refl
+count_numbered (suc (suc (suc (suc n)))) h = absurd (omega arith)
 
-pub name_length_lem : (mode : ℕ) → mode < 8 → name_length mode ≤ 6
-name_length_lem = below_eight (λ m. name_length m ≤ 6) (omega arith) (omega arith) (omega arith) (omega arith) (omega arith) (omega arith) (omega arith) (omega arith)
-
-name_part : (mode : ℕ) → mode < 8 → take (6 * mode + name_length mode - 6 * mode) (drop (6 * mode) names) ≡ mode_name mode
-unfolding mode_name
-name_part = below_eight (λ m. take (6 * m + name_length m - 6 * m) (drop (6 * m) names) ≡ mode_name m) refl refl refl refl refl refl refl refl
-
--- the part of the table that is the mode's name has room where the name has, and is the name
-pub name_room : (at mode : ℕ) → mode < 8 → Room at (mode_name mode) → Room at (take (6 * mode + name_length mode - 6 * mode) (drop (6 * mode) names))
-name_room at mode h r = rw (name_part mode h) r
-
-pub name_wrote : {out left : List ℕ} {at end : ℕ} (mode : ℕ) → mode < 8 → Wrote out at (take (6 * mode + name_length mode - 6 * mode) (drop (6 * mode) names)) end left → Wrote out at (mode_name mode) end left
-name_wrote mode h w = rw (name_part mode h) at w
-
--- eight numbers that are the places of a list of eight are that list
-pub eight_places : (xs : List ℕ) {c0 c1 c2 c3 c4 c5 c6 c7 : ℕ} → length xs ≡ 8
-    → c0 ≡ get_or xs 0 0 → c1 ≡ get_or xs 1 0 → c2 ≡ get_or xs 2 0 → c3 ≡ get_or xs 3 0
-    → c4 ≡ get_or xs 4 0 → c5 ≡ get_or xs 5 0 → c6 ≡ get_or xs 6 0 → c7 ≡ get_or xs 7 0
-    → c0 ∷ c1 ∷ c2 ∷ c3 ∷ c4 ∷ c5 ∷ c6 ∷ c7 ∷ [] ≡ xs
-eight_places xs e e0 e1 e2 e3 e4 e5 e6 e7 = rw (e0, e1, e2, e3, e4, e5, e6, e7) (rw e at (tab_places 0 xs))
-
--- the numbers after the name, from the named parts of MB
-pub numbers_are : (b : Block) (n repeat low last : ℕ) (colours : List ℕ)
-    → n ≡ colour_number b
-    → repeat ≡ number (vres b)
-    → low ≡ number (vint b)
-    → last ≡ number (reload b)
-    → colours ≡ b.col
-    → get_or (2 ∷ 4 ∷ 16 ∷ 256 ∷ []) n 0 ∷ repeat ∷ low ∷ last ∷ b.lm ∷ b.rm ∷ b.start.ld1 ∷ b.start.ld2 ∷ colours
-    ≡ numbers_after_name b
-unfolding colour_count
-numbers_are b n repeat low last colours e0 e1 e2 e3 e4 = rw (e0, e1, e2, e3, e4)
+-- the numbers after the name, as the code writes them: first eight, then the colours
+pub numbers_text : (b : Block) →
+    tabbed (numbers_after_name b)
+    ≡ tabbed (count_of (colours_of b) ∷ number (vres b) ∷ number (vint b) ∷ number (reload b) ∷ b.lm ∷ b.rm ∷ b.start.ld1 ∷ b.start.ld2 ∷ [])
+    ++ tabbed b.col
+unfolding tabbed
+numbers_text b = rw (← count_numbered (colour_number b) (omega arith)) (sym (simp append_assoc))
 
 -- a block's line, piece by piece
-pub line_text : (n : ℕ) (b : Block) (xs : List ℕ) → xs ≡ numbers_after_name b
-    → block_line n b ≡ decimal (16 * n) ++ field (256 - b.sc) ++ (TAB ∷ mode_name (mode_number b)) ++ tabbed xs ++ (LF ∷ [])
+pub line_text : (n : ℕ) (b : Block) → block_line n b ≡ decimal (16 * n) ++ field (256 - b.sc) ++ (TAB ∷ []) ++ name_of (mode_of b) ++ tabbed (numbers_after_name b) ++ (LF ∷ [])
 unfolding block_line
-line_text n b xs e = rw e
+line_text n b =
+    let name = mode_name (mode_number b) in
+    rw (name_numbered (mode_number b) (omega arith)) (rw (append_assoc (decimal (16 * n) ++ field (256 - b.sc)) (TAB ∷ []) name) refl)
 
-abbrev pub LineLength : ℕ → Block → List ℕ → Type 0
-LineLength n b xs = length (block_line n b) ≡ length (decimal (16 * n)) + length (field (256 - b.sc)) + suc (length (mode_name (mode_number b))) + length (tabbed xs) + 1
+pub line_length : (n : ℕ) (b : Block) →
+    length (block_line n b)
+    ≡ length (decimal (16 * n)) + length (field (256 - b.sc)) + 1 + length (name_of (mode_of b)) + length (tabbed (numbers_after_name b)) + 1
+line_length n b = rw (line_text n b) (simp length-append)
 
-pub line_length : (n : ℕ) (b : Block) (xs : List ℕ) → xs ≡ numbers_after_name b → LineLength n b xs
-line_length n b xs e = rw (line_text n b xs e) (simp length-append)
-
--- the first line, and the last
-pub word_length : (word : List ℕ) (n : ℕ) → length (word_line word n) ≡ length word + length (decimal n) + 1
-word_length word n = simp length-append
-
+-- the words of the first line and the last, with their tabs
 abbrev pub header : List ℕ
 header = header_word ++ (TAB ∷ [])
 
-abbrev pub end_tab : List ℕ
-end_tab = end_word ++ (TAB ∷ [])
+abbrev pub ending : List ℕ
+ending = end_word ++ (TAB ∷ [])
 
-pub header_text : (g : Registers) (base : ℕ) → base ≡ base_number g → header_line g ≡ word_line header (16 * base)
-unfolding header_line
-header_text g base e = rw e
+pub word_length : (word : List ℕ) (n : ℕ) → length (word_line word n) ≡ length word + length (decimal n) + 1
+unfolding word_line
+word_length word n = simp length-append
 
-pub end_text : (count : ℕ) → end_line count ≡ word_line end_tab count
-unfolding end_line
-end_text count = refl
+-- a listing's three parts
+pub listing_text : (g : Registers) (ram : List ℕ) →
+    listing g ram
+    ≡ word_line header (16 * base_number g)
+    ++ block_lines g ram (blocks_listed g ram)
+    ++ word_line ending (blocks_listed g ram)
+unfolding listing header_line end_line word_line
+listing_text g ram = refl

@@ -1,2 +1,3 @@
 pub mod WrittenLines
 pub mod ListCall
+pub mod Modes

@@ -11,5 +11,5 @@ abbrev pub line_after : Registers → List ℕ → ℕ → List ℕ
 line_after g ram k = block_line ((base_number g + k) % 4096) (block_at ram ((base_number g + k) % 4096))
 
 -- a word that ends with a tab, and a number
-abbrev pub word_line : List ℕ → ℕ → List ℕ
+unfoldable pub word_line : List ℕ → ℕ → List ℕ
 word_line word n = word ++ decimal n ++ (LF ∷ [])

@@ -3,104 +3,108 @@
 
 mod line;
 
-ghost use Rattle.std.specs.Prelude.{◌≡◌, ◌+◌, ◌%◌, ◌<◌, ◌≤◌, length};
+ghost use Rattle.std.specs.Prelude.{◌≡◌, ◌+◌, ◌%◌, ◌<◌, ◌≤◌, length as List·length};
+ghost use Rattle.std.proofs.lemmas.List.Edits.{sets};
 ghost use Rattle.nick.specs.Listing.{block_lines, blocks_listed, listing};
-ghost use Rattle.text.specs.Writing.{Room, Wrote};
-ghost use Rattle.listing.specs.WrittenLines.{line_after, word_line};
+ghost use Rattle.text.specs.Writing.{Room, wrote};
+ghost use Rattle.listing.specs.WrittenLines.{word_line};
 ghost use Rattle.listing.specs.ListCall.{Lists};
 
 use blocks::{base_number, block_at, has_reload};
 use line::put_block;
-use nick::{Listed, Registers};
-use text::{put_byte, put_bytes, put_decimal};
+use nick::{Ram, Refusal, Registers};
+use text::Writer;
 
-// What a listing starts with.
+// How many blocks the table has room for.
+const BLOCKS: u16 = 4096;
+
+// What a listing starts with: byte strings, as document 01 has them (docs/DECISIONS.md 20).
 pub const HEADER: [u8; 10] = *b"NICKTABLE\t";
 
 // What its last line starts with.
 pub const END: [u8; 4] = *b"END\t";
 
 // The number of the block k places after the base.
-fn number_after(base: u16, k: usize) -> u16
-    requires { k < 4096 }
+fn number_after(base: u16, k: u16) -> u16
+    requires { (base < 4096) × (k < 4096) }
     ensures { (result ≡ (base + k) % 4096) × (result < 4096) }
 {
-    ((base as usize + k) % 4096) as u16
+    (base + k) % BLOCKS
 }
 
 // The number of blocks from the base up to the first with RELOAD, at most 4,096.
-fn blocks_listed(registers: Registers, ram: &[u8]) -> usize
-    requires { length ram.now ≡ 65536 }
-    ensures { result ≡ blocks_listed registers ram.now }
+#[tactic(auto, using(crate::proofs::BlocksLeft::listed_after, crate::proofs::BlocksLeft::after_reload, crate::proofs::BlocksLeft::after_more, crate::proofs::BlocksLeft::after_all))]
+fn blocks_listed(registers: Registers, ram: &Ram) -> u16
+    ensures { (result ≡ blocks_listed registers ram.now) × (result ≤ 4096) }
 {
     let base = base_number(registers);
-    let mut k = 0;
-    while k < 4096 {
+    for k in 0..BLOCKS {
         if has_reload(block_at(ram, number_after(base, k))) {
             return k + 1;
         }
-        k += 1;
     }
-    k
+    BLOCKS
 }
 
 // A word with its tab, and a number, on a line.
-fn put_word_line(out: &mut [u8], at: usize, word: &[u8], n: usize) -> usize
-    requires { Room at (word_line word.now n) }
-    ensures { Wrote out.old at (word_line word.now n) result out.new }
+#[tactic(auto, using(text::proofs::Writing::writing), unfolding(crate::specs::WrittenLines::word_line))]
+fn put_word_line(writer: &mut Writer<'_>, word: &[u8], n: usize)
+    requires { Room writer.old (word_line word.now n) }
+    ensures { writer.new ≡ wrote writer.old (word_line word.now n) }
 {
-    let at = put_bytes(out, at, word);
-    let at = put_decimal(out, at, n);
-    put_byte(out, at, b'\n')
+    writer.put_bytes(word);
+    writer.put_decimal(n);
+    writer.put_byte(b'\n');
 }
 
-// The line of the block k places after the base.
-fn put_line(out: &mut [u8], at: usize, registers: Registers, ram: &[u8], k: usize) -> usize
-    requires { (k < 4096) × (length ram.now ≡ 65536) × Room at (line_after registers ram.now k) }
-    ensures { Wrote out.old at (line_after registers ram.now k) result out.new }
+// The lines of the blocks that are listed; answers how many they are.
+#[tactic(auto, using(text::proofs::Writing::writing, crate::proofs::FirstLines::line_room, crate::proofs::FirstLines::lines_more))]
+fn put_lines(writer: &mut Writer<'_>, registers: Registers, ram: &Ram) -> u16
+    requires { Room writer.old (block_lines registers ram.now (blocks_listed registers ram.now)) }
+    ensures count { result ≡ blocks_listed registers ram.now }
+    ensures lines { writer.new ≡ wrote writer.old (block_lines registers ram.now result) }
 {
-    let number = number_after(base_number(registers), k);
-    put_block(out, at, number, block_at(ram, number))
-}
-
-// The lines of the first blocks.
-fn put_lines(out: &mut [u8], at: usize, registers: Registers, ram: &[u8], count: usize) -> usize
-    requires { (count ≤ 4096) × (length ram.now ≡ 65536) × Room at (block_lines registers ram.now count) }
-    ensures { Wrote out.old at (block_lines registers ram.now count) result out.new }
-{
-    let mut end = at;
-    let mut k = 0;
-    while k < count {
-        end = put_line(out, end, registers, ram, k);
-        k += 1;
-    }
-    end
-}
-
-// The whole listing, as much of it as the output holds; answers its whole length.
-fn put_listing(out: &mut [u8], registers: Registers, ram: &[u8]) -> usize
-    requires { length ram.now ≡ 65536 }
-    ensures { Wrote out.old 0 (listing registers ram.now) result out.new }
-{
+    let base = base_number(registers);
     let count = blocks_listed(registers, ram);
-    let at = put_word_line(out, 0, &HEADER, 16 * base_number(registers) as usize);
-    let at = put_lines(out, at, registers, ram, count);
-    put_word_line(out, at, &END, count)
+    for k in 0..count {
+        let number = number_after(base, k);
+        put_block(writer, number, block_at(ram, number));
+    }
+    count
+}
+
+// The whole listing.
+#[tactic(auto, using(text::proofs::Writing::writing, crate::proofs::Pieces::listing_text))]
+fn put_listing(writer: &mut Writer<'_>, registers: Registers, ram: &Ram)
+    requires { Room writer.old (listing registers ram.now) }
+    ensures { writer.new ≡ wrote writer.old (listing registers ram.now) }
+{
+    put_word_line(writer, &HEADER, 16 * usize::from(base_number(registers)));
+    let count = put_lines(writer, registers, ram);
+    put_word_line(writer, &END, usize::from(count));
+}
+
+// Writes as much of the listing as the output holds, and answers the whole listing's length.
+#[tactic(auto, using(crate::proofs::Length::listing_bound), unfolding(text::specs::Writing::wrote))]
+fn write_listing(out: &mut [u8], registers: Registers, ram: &Ram) -> usize
+    ensures text { result ≡ List·length (listing registers ram.now) }
+    ensures output { out.new ≡ sets out.old 0 (listing registers ram.now) }
+{
+    let mut writer = Writer::new(out);
+    put_listing(&mut writer, registers, ram);
+    writer.end()
 }
 
 // Writes the listing of the line parameter table that starts at the base block, and answers its length.
-pub fn list(registers: Registers, ram: &[u8], out: &mut [u8]) -> Listed
+#[tactic(auto, using(text::proofs::Writing::sets_start), unfolding(nick::specs::Listing::list_answer, nick::specs::Listing::list_output, nick::specs::Refusals::listing_refusal))]
+pub fn list(registers: Registers, ram: &[u8], out: &mut [u8]) -> Result<usize, Refusal>
     ensures { Lists registers ram.now out.old result out.new }
 {
-    if refusals::is_not_full(ram) {
-        return Listed::Refused(4);
+    let ram = refusals::whole(ram)?;
+    // Over no bytes, the writer only counts.
+    let length = write_listing(&mut [], registers, ram);
+    if out.len() < length {
+        return Err(Refusal::OutputLength);
     }
-    let room = out.len();
-    // Lent no bytes, the writer only counts.
-    let length = put_listing(&mut out[..0], registers, ram);
-    if room < length {
-        return Listed::Refused(10);
-    }
-    put_listing(out, registers, ram);
-    Listed::Length(length)
+    Ok(write_listing(out, registers, ram))
 }

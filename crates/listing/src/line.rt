@@ -1,73 +1,83 @@
 // The line of one block.
 ghost use Rattle.std.specs.Prelude.{◌≡◌, ◌<◌};
-ghost use Rattle.nick.specs.Listing.{mode_name, numbers_after_name, block_line};
-ghost use Rattle.text.specs.Writing.{Room, Wrote};
+ghost use Rattle.nick.specs.Listing.{block_line, numbers_after_name};
+ghost use Rattle.text.specs.Decimal.{tabbed};
+ghost use Rattle.text.specs.Writing.{Room, wrote};
+ghost use Rattle.blocks.specs.Modes.{mode_named, colours_named};
+ghost use Rattle.listing.specs.Modes.{name_of, count_of};
 
-use blocks::{colour_mode, has_reload, has_vint, has_vres, video_mode};
-use lists::bit;
+use blocks::{
+    CodeWidth, ColourMode, VideoMode, colour_mode, has_reload, has_vint, has_vres, video_mode,
+};
 use nick::Block;
-use text::{TAB, put_byte, put_bytes, put_decimal, put_field, put_fields};
-
-// The number of colours, by the colour mode number.
-const COLOURS: [usize; 4] = [2, 4, 16, 256];
-
-// The names of the video modes, in six bytes each, and how many of the six are the name.
-const NAMES: [u8; 48] = *b"VSYNC PIXEL ATTR  CH256 CH128 CH64  UNUSEDLPIXEL";
-
-const NAME_LENGTHS: [usize; 8] = [5, 5, 4, 5, 5, 4, 6, 6];
+use text::{TAB, Writer};
 
 // The name of a video mode.
-fn put_name(out: &mut [u8], at: usize, mode: usize) -> usize
-    requires { (mode < 8) × Room at (mode_name mode) }
-    ensures { Wrote out.old at (mode_name mode) result out.new }
+#[tactic(auto, unfolding(crate::specs::Modes::name_of))]
+fn name(mode: VideoMode) -> &'static str
+    ensures { result.now ≡ name_of (mode_named mode) }
 {
-    let start = 6 * mode;
-    let end = start + NAME_LENGTHS[mode];
-    put_bytes(out, at, &NAMES[start..end])
+    match mode {
+        VideoMode::Vsync => "VSYNC",
+        VideoMode::Pixel => "PIXEL",
+        VideoMode::Attr => "ATTR",
+        VideoMode::Character(CodeWidth::Eight) => "CH256",
+        VideoMode::Character(CodeWidth::Seven) => "CH128",
+        VideoMode::Character(CodeWidth::Six) => "CH64",
+        VideoMode::Unused => "UNUSED",
+        VideoMode::Lpixel => "LPIXEL",
+    }
 }
 
-// A byte as a number of the listing.
-fn wide(byte: u8) -> usize
-    ensures { result ≡ byte }
+// The number of colours.
+#[tactic(auto, unfolding(crate::specs::Modes::count_of))]
+fn colours(mode: ColourMode) -> usize
+    ensures { result ≡ count_of (colours_named mode) }
 {
-    byte as usize
+    match mode {
+        ColourMode::Two => 2,
+        ColourMode::Four => 4,
+        ColourMode::Sixteen => 16,
+        ColourMode::All => 256,
+    }
 }
 
-// The numbers of a block's line that stand after the mode name.
-fn numbers_after_name(block: Block) -> [usize; 16]
-    ensures { result ≡ numbers_after_name block }
+// The eight colours as numbers.
+fn palette(block: Block) -> [usize; 8]
+    ensures { result ≡ block.col }
 {
-    let col = block.col;
-    [
-        COLOURS[colour_mode(block) as usize],
-        bit(has_vres(block)) as usize,
-        bit(has_vint(block)) as usize,
-        bit(has_reload(block)) as usize,
-        block.lm as usize,
-        block.rm as usize,
-        block.start.ld1 as usize,
-        block.start.ld2 as usize,
-        wide(col[0]),
-        wide(col[1]),
-        wide(col[2]),
-        wide(col[3]),
-        wide(col[4]),
-        wide(col[5]),
-        wide(col[6]),
-        wide(col[7]),
-    ]
+    block.col.map(usize::from)
+}
+
+// The numbers of a block's line that stand after the mode name, the eight colours last.
+#[tactic(auto, using(text::proofs::Writing::writing, crate::proofs::Pieces::numbers_text))]
+fn put_numbers(writer: &mut Writer<'_>, block: Block)
+    requires { Room writer.old (tabbed (numbers_after_name block)) }
+    ensures { writer.new ≡ wrote writer.old (tabbed (numbers_after_name block)) }
+{
+    writer.put_fields(&[
+        colours(colour_mode(block)),
+        usize::from(has_vres(block)),
+        usize::from(has_vint(block)),
+        usize::from(has_reload(block)),
+        usize::from(block.lm),
+        usize::from(block.rm),
+        usize::from(block.start.ld1),
+        usize::from(block.start.ld2),
+    ]);
+    writer.put_fields(&palette(block));
 }
 
 // The line of a block with this number.
-pub fn put_block(out: &mut [u8], at: usize, number: u16, block: Block) -> usize
-    requires { (number < 4096) × Room at (block_line number block) }
-    ensures { Wrote out.old at (block_line number block) result out.new }
+#[tactic(auto, using(text::proofs::Writing::writing, crate::proofs::Pieces::line_text, crate::proofs::Pieces::line_length))]
+pub fn put_block(writer: &mut Writer<'_>, number: u16, block: Block)
+    requires { (number < 4096) × Room writer.old (block_line number block) }
+    ensures { writer.new ≡ wrote writer.old (block_line number block) }
 {
-    let numbers = numbers_after_name(block);
-    let at = put_decimal(out, at, 16 * number as usize);
-    let at = put_field(out, at, 256 - block.sc as usize);
-    let at = put_byte(out, at, TAB);
-    let at = put_name(out, at, video_mode(block) as usize);
-    let at = put_fields(out, at, &numbers);
-    put_byte(out, at, b'\n')
+    writer.put_decimal(16 * usize::from(number));
+    writer.put_field(256 - usize::from(block.sc));
+    writer.put_byte(TAB);
+    writer.put_bytes(name(video_mode(block)).as_bytes());
+    put_numbers(writer, block);
+    writer.put_byte(b'\n');
 }

@@ -1,13 +1,14 @@
 -- General laws on lists: whole buffers, parts that are lent in a loop, and lists made from a rule for each place.
 use mathlib.Core.Path.{◌≡◌, refl, sym, ap, ◌∙◌}
 use mathlib.Core.List.{List, [], ◌∷◌, ◌++◌, append-nil, append_assoc}
-use Prim.Native.Nat.{ℕ, zero, suc, ◌+◌, ◌-◌, ◌≤◌, ◌<◌, min}
-use native.Mathlib.Nat.{zero-add, add-zero, add-suc, not-suc-le-zero}
+use Prim.Native.Nat.{ℕ, zero, suc, ◌+◌, ◌-◌, ◌*◌, ◌≤◌, ◌<◌, min}
+use native.Mathlib.Nat.{add_comm, mul-zero, mul-suc, zero-add, add-zero, add-suc, not-suc-le-zero}
 use native.Mathlib.Numerals.{add-one}
 use native.Mathlib.Decide.{dec_lt}
 use native.Mathlib.Omega.{arith}
 use lib.ListN.{length, get_or, take, drop, set, replicate, length-append, length-take, length-drop, drop_of_length-le, replicate-append-replicate, get_or-append}
 use lib.Seq.{take-length, take_at, drop_at, drop-drop, set_at, drop-cons, get_or_at, ext_get_or, sets, sets-eq}
+use Rattle.std.specs.Simd.{first_chunks}
 use Rattle.lists.specs.Tab.{tab}
 
 module _ {ℓ} {A : Type ℓ} where
@@ -87,3 +88,10 @@ module _ {ℓ} {A : Type ℓ} (f : ℕ → A) (d out : List A) (n : ℕ) (made :
   -- all places are stored
   pub tab_all : length d ≤ n → out ≡ tab f n
   tab_all h = made ∙ front_all (tab f n) d n h
+
+-- chunk i of a list in chunks of n
+pub chunk_at : {A : Type 0} (n k i : ℕ) (xs : List A) → i < k → get_or (first_chunks n k xs) i [] ≡ take n (drop (n * i) xs)
+chunk_at n zero i xs h = absurd (not-suc-le-zero h)
+chunk_at n (suc k) zero xs h = rw (mul-zero n) refl
+chunk_at n (suc k) (suc i) xs h =
+    chunk_at n k i (drop n xs) (omega arith) ∙ rw (drop-drop (n * i) n xs, mul-suc n i, add_comm n (n * i)) refl

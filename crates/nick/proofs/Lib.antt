@@ -1,5 +1,4 @@
 pub mod Bits
-pub mod ModeNumbers
 pub mod WellFormed
 pub mod Refusals
 pub mod Determined

@@ -1,16 +1,16 @@
 -- Document 01, "The direct answer": one dot's colour, the addresses that it names, and what it depends on.
-use Rattle.std.specs.Prelude.{ℕ, zero, suc, ◌+◌, ◌*◌, ◌/◌, ◌%◌, cond, List, [], ◌∷◌, ◌++◌, eqb, get_or}
+use Rattle.std.specs.Prelude.{ℕ, zero, suc, Result, Ok, Err, ◌+◌, ◌*◌, ◌/◌, ◌%◌, cond, List, [], ◌∷◌, ◌++◌, eqb, get_or}
 use Rattle.nick.specs.Blocks.{loads, loaded_number, block_addresses, begun}
 use Rattle.nick.specs.Slots.{mode_of, dot_addresses}
 use Rattle.nick.specs.Scanline.{active_at, pointers_after, line_dots, scan_after}
-use Rattle.nick.specs.Refusals.{direct_refusal}
+use Rattle.nick.specs.Refusals.{number_of, direct_refusal}
 use Rattle.nick.specs.declared.Registers.{Registers}
 use Rattle.nick.specs.declared.Scan.{Scan}
 use Rattle.nick.specs.declared.State.{State}
 use Rattle.nick.specs.declared.Sources.{Sources}
 use Rattle.nick.specs.declared.Sources.TheVariants.{Nothing, One, Two}
 use Rattle.nick.specs.declared.Answer.{Answer}
-use Rattle.nick.specs.declared.Answer.TheVariants.{Refused, Colour}
+use Rattle.nick.specs.declared.refusal.Refusal.{Refusal}
 
 -- what is said of a dot: its colour, and the addresses that it comes from
 pub record Shown : Type 0 where
@@ -29,9 +29,9 @@ addresses_of (One a) = a ∷ []
 addresses_of (Two a b) = a ∷ b ∷ []
 
 -- the number, or the colour and the addresses, of each case of the answer
-abbrev pub answered : Answer → Answered
-answered (Refused n) = refused n
-answered (Colour c named) = shows (record { colour = c; names = addresses_of named })
+abbrev pub answered : Result Answer Refusal → Answered
+answered (Ok a) = shows (record { colour = a.colour; names = addresses_of a.sources })
+answered (Err refusal) = refused (number_of refusal)
 
 -- "The rules' colour of line y, dot x: run the scanline rules y + 1 times from the state given; it is dot x of the last, with
 -- that external byte."

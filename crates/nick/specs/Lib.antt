@@ -14,4 +14,3 @@ pub mod Painting
 pub mod Direct
 pub mod Listing
 pub mod Examples
-pub mod Internal

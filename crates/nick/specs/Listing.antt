@@ -1,16 +1,15 @@
 -- Document 01, "The listing": the text of the parameter table as a list of bytes, and what the call leaves.
-use Rattle.std.specs.Prelude.{ℕ, zero, suc, ◌+◌, ◌-◌, ◌*◌, ◌%◌, cond, List, [], ◌∷◌, ◌++◌, eqb, length, get_or, drop}
+use Rattle.std.specs.Prelude.{ℕ, zero, suc, Result, Ok, Err, ◌+◌, ◌-◌, ◌*◌, ◌%◌, cond, List, [], ◌∷◌, ◌++◌, eqb, length, get_or, drop}
 use Rattle.lists.specs.Number.{number}
 use Rattle.text.specs.Decimal.{TAB, LF, decimal, tabbed}
 use Rattle.nick.specs.Registers.{base_number}
 use Rattle.nick.specs.Blocks.{block_at, vint, vres, reload}
 use Rattle.nick.specs.Slots.{mode_number}
 use Rattle.nick.specs.Colour.{colour_number}
-use Rattle.nick.specs.Refusals.{listing_refusal}
+use Rattle.nick.specs.Refusals.{number_of, listing_refusal}
 use Rattle.nick.specs.declared.Registers.{Registers}
 use Rattle.nick.specs.declared.Block.{Block}
-use Rattle.nick.specs.declared.Listed.{Listed}
-use Rattle.nick.specs.declared.Listed.TheVariants.{Length, Refused}
+use Rattle.nick.specs.declared.refusal.Refusal.{Refusal}
 
 -- NICKTABLE
 abbrev pub header_word : List ℕ
@@ -91,9 +90,9 @@ pub data ListAnswered : Type 0 where
   list_length : ℕ → ListAnswered
 
 -- the number, or the length, of each case of the answer
-abbrev pub list_answered : Listed → ListAnswered
-list_answered (Refused n) = list_refused n
-list_answered (Length n) = list_length n
+abbrev pub list_answered : Result ℕ Refusal → ListAnswered
+list_answered (Ok n) = list_length n
+list_answered (Err refusal) = list_refused (number_of refusal)
 
 -- "The answer is the listing's length." "It uses the registers alone, not the rest of the state."
 unfoldable pub list_answer : Registers → List ℕ → List ℕ → ListAnswered

@@ -1,11 +1,54 @@
 -- Document 01, "Buffers and refusal numbers": the tests of the table. A call tests its numbers in rising order, so that
 -- "the smallest number is given"; 0 stands for no refusal. Number 11 is given by nothing (document 02, item 9): claims
 -- specs/InsideRam has what it said, and why it cannot be met.
-use Rattle.std.specs.Prelude.{ℕ, zero, suc, ◌*◌, ◌<◌, ◌≤◌, ◌≡◌, Bool, false, not, cond, ◌||◌, List, eqb, ltb, length}
+use Rattle.std.specs.Prelude.{ℕ, zero, suc, Result, Ok, Err, ◌*◌, ◌<◌, ◌≤◌, ◌≡◌, Bool, false, not, cond, ◌||◌, List, eqb, ltb, length}
 use Rattle.nick.specs.Sizes.{record_bytes}
 use Rattle.nick.specs.Numbers.{byte_at}
 use Rattle.nick.specs.declared.Scan.{Scan}
 use Rattle.nick.specs.declared.State.{State}
+use Rattle.nick.specs.declared.refusal.Refusal.{Refusal}
+use Rattle.nick.specs.declared.refusal.Refusal.TheVariants.{
+  ForeignPort,
+  ReservedPort,
+  IllFormedState,
+  RamLength,
+  Height,
+  DotsLength,
+  RecordsLength,
+  ExternalLength,
+  Place,
+  OutputLength,
+  StampedRecord,
+  Script,
+  EncodedLength,
+}
+use Rattle.nick.specs.declared.refusal.UnknownRefusal.{UnknownRefusal}
+
+-- the number of each refusal
+abbrev pub number_of : Refusal → ℕ
+number_of ForeignPort = 1
+number_of ReservedPort = 2
+number_of IllFormedState = 3
+number_of RamLength = 4
+number_of Height = 5
+number_of DotsLength = 6
+number_of RecordsLength = 7
+number_of ExternalLength = 8
+number_of Place = 9
+number_of OutputLength = 10
+number_of StampedRecord = 12
+number_of Script = 19
+number_of EncodedLength = 20
+
+-- the number that a call gives, 0 where it is not refused
+abbrev pub refusal_in : {A : Type 0} → Result A Refusal → ℕ
+refusal_in (Ok a) = 0
+refusal_in (Err refusal) = number_of refusal
+
+-- the number that was asked for: a refusal's, or no refusal's
+abbrev pub number_asked : Result Refusal UnknownRefusal → ℕ
+number_asked (Ok refusal) = number_of refusal
+number_asked (Err unknown) = unknown.0
 
 -- 3: "state: scanlines left over 256, or block number over 4,095"
 abbrev pub ill_formed : Scan → Bool

@@ -3,13 +3,13 @@ use mathlib.Core.Path.{◌≡◌, refl}
 use mathlib.Core.Bool.{Bool, true, false, cond}
 use mathlib.Core.List.{List, [], ◌∷◌}
 use Prim.Native.Nat.{ℕ, zero, suc}
+use native.Mathlib.Omega.{arith}
 use lib.Dec.{eqb}
 use lib.ListN.{length}
-use Rattle.nick.specs.Registers.{fresh_state, write_refusal, written_registers, written_scan, written}
-use Rattle.nick.specs.Blocks.{loads, loaded_number, decoded, block_at, loaded, continued, begun}
+use Rattle.nick.specs.Registers.{fresh_state, written_scan, written}
+use Rattle.nick.specs.Blocks.{decoded, block_at, loaded, continued, begun}
 use Rattle.nick.specs.Scanline.{ended, next_scan}
 use Rattle.nick.specs.Record.{next_state, state_after}
-use Rattle.nick.specs.Refusals.{painting_refusal}
 use Rattle.nick.specs.Painting.{painted, refused_painting, paint}
 use Rattle.nick.specs.declared.Registers.{Registers}
 use Rattle.nick.specs.declared.Scan.{Scan}
@@ -31,11 +31,7 @@ bytes_eight b = refl
 
 begun_eight : (g : Registers) (ram : List ℕ) (c : Scan) → length c.block.col ≡ 8 → length (begun g ram c).block.col ≡ 8
 unfolding begun loaded continued block_at decoded
-begun_eight g ram c h = go (loads c)
-  where
-    go : (t : Bool) → length (cond t (loaded g (loaded_number g c) (block_at ram (loaded_number g c))) (continued c)).block.col ≡ 8
-    go true = refl
-    go false = h
+begun_eight g ram c h = grind arith
 
 after_eight : (ram : List ℕ) (n : ℕ) (s : State) → Eight s → Eight (state_after ram n s)
 unfolding next_state next_scan ended
@@ -46,19 +42,11 @@ after_eight ram (suc n) s h =
 module _ (s : State) (h : Eight s) where
   pub paint_eight : (ram : List ℕ) (n : ℕ) (dots records external : List ℕ) → Eight (paint s ram n dots records external).state
   unfolding paint painted refused_painting
-  paint_eight ram n dots records external = go (eqb (painting_refusal s ram n dots records external) 0)
-    where
-      go : (t : Bool) → Eight (cond t (painted s ram n external) (refused_painting (painting_refusal s ram n dots records external) s dots records)).state
-      go true = after_eight ram n s h
-      go false = h
+  paint_eight ram n dots records external = grind (arith, after_eight ram n s h)
 
   pub write_eight : (port value : ℕ) → Eight (written s port value)
   unfolding written written_scan
-  write_eight port value = go (eqb (write_refusal port) 0)
-    where
-      go : (t : Bool) → length (cond t (record { registers = written_registers s.registers port value; scan = written_scan s.scan port value; virq = s.virq; sync = s.sync }) s).scan.block.col ≡ 8
-      go true = h
-      go false = h
+  write_eight port value = grind arith
 
 step_eight : (ram : List ℕ) (step : Step) (b : Bench) → Eight b.state → Eight (after ram step b).state
 unfolding after

@@ -1,4 +1,2 @@
-pub mod Calls
 pub mod Chains
 pub mod Demand3
-pub mod Runs

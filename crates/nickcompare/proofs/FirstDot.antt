@@ -1,36 +1,29 @@
--- The first dot that differs lies in both buffers, where the parts that were read are compared and not refused.
-use mathlib.Core.Path.{◌≡◌, sym, ap, ◌∙◌}
-use mathlib.Core.List.{List}
-use Prim.Native.Nat.{ℕ, ◌+◌, ◌*◌, ◌<◌}
-use native.Mathlib.Omega.{arith}
-use lib.ListN.{length, take, length-take}
-use Rattle.comparison.specs.Comparison.{at}
+-- The first dot that differs lies in both buffers, where they are compared and not refused.
+use Rattle.std.proofs.Common.{◌≡◌, refl, sym, ap, ℕ, arith, List, Option, Some, None, Result, Ok, Err, IfOk}
+use Rattle.comparison.specs.Comparison.{comparison}
 use Rattle.comparison.specs.Answers.{place_of, found_by, answered}
-use Rattle.comparison.specs.declared.Compared.{Compared}
-use Rattle.comparison.specs.declared.Compared.TheVariants.{Found}
 use Rattle.comparison.specs.declared.Differences.{Differences}
+use Rattle.comparison.specs.declared.Place.{Place}
+use Rattle.comparison.specs.declared.Refused.{Refused}
 use Rattle.comparison.proofs.FirstDot.{first_inside}
-use Rattle.files.specs.declared.pair.Pair.{Pair}
-use Rattle.nickcompare.specs.ComparedFiles.{comparison_read}
+use Rattle.nickcompare.specs.ComparedFiles.{Compares}
 use Rattle.nickcompare.specs.FirstDot.{LiesIn}
 
-pub first_read :
-    (h : ℕ) (captured framed : Pair) (capture capture_records frame frame_records : List ℕ) (r : Compared) (d : Differences)
-    → answered r ≡ comparison_read h captured framed capture capture_records frame frame_records
-    → r ≡ Found d
-    → LiesIn d.first capture × LiesIn d.first frame
-first_read h captured framed capture capture_records frame frame_records r d is e = (in_capture, in_frame)
+pub compares :
+    (h : ℕ) (capture capture_records frame frame_records : List ℕ) (r : Result Differences Refused)
+    → answered r ≡ comparison h capture capture_records frame frame_records
+    → Compares h capture capture_records frame frame_records r
+compares h capture capture_records frame frame_records r is = record { answer = is; inside = lies r is }
   where
-    inside :
-        (line dot : ℕ)
-        → place_of d.first ≡ at line dot
-        → (736 * line + dot < length (take captured.first capture))
-        × (length (take framed.first frame) ≡ length (take captured.first capture))
-    inside line dot first = first_inside h _ _ _ _ (found_by d) line dot (sym is ∙ ap answered e) first
-
-    in_capture : LiesIn d.first capture
-    in_capture line dot first = omega (arith, (inside line dot first).0, length-take captured.first capture)
-
-    in_frame : LiesIn d.first frame
-    in_frame line dot first =
-        omega (arith, (inside line dot first).0, (inside line dot first).1, length-take framed.first frame)
+    lies :
+        (r : Result Differences Refused)
+        → answered r ≡ comparison h capture capture_records frame frame_records
+        → IfOk r (λ d. LiesIn d.first capture × LiesIn d.first frame)
+    lies (Err refused) is = tt
+    lies (Ok d) is = go d.first refl
+      where
+        go : (first : Option Place) → d.first ≡ first → LiesIn first capture × LiesIn first frame
+        go None none = (tt, tt)
+        go (Some place) there =
+            let inside = first_inside h capture capture_records frame frame_records (found_by d) place.line place.dot (sym is) (ap place_of there) in
+            (inside.0, omega (arith, inside.0, inside.1))

@@ -1,2 +1,1 @@
 pub mod FirstDot
-pub mod Magnitude

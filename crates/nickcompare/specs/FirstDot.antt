@@ -1,9 +1,7 @@
 -- Where the first dot that differs lies.
-use Rattle.std.specs.Prelude.{◌≡◌, ℕ, ◌+◌, ◌*◌, ◌<◌, List, length}
-use Rattle.comparison.specs.Comparison.{at}
-use Rattle.comparison.specs.Answers.{place_of}
-use Rattle.comparison.specs.declared.First.{First}
+use Rattle.std.specs.Prelude.{ℕ, ◌+◌, ◌*◌, ◌<◌, Option, IfSome, List, length}
+use Rattle.comparison.specs.declared.Place.{Place}
 
 -- the first dot, if there is one, is in the buffer
-abbrev pub LiesIn : First → List ℕ → Type 0
-LiesIn first dots = (line dot : ℕ) → place_of first ≡ at line dot → 736 * line + dot < length dots
+abbrev pub LiesIn : Option Place → List ℕ → Type 0
+LiesIn first dots = IfSome first (λ place. 736 * place.line + place.dot < length dots)

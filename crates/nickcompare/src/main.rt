@@ -4,17 +4,13 @@
 
 mod print;
 
-ghost use Rattle.std.specs.Prelude.{◌≡◌};
-ghost use Rattle.comparison.specs.Answers.{answered};
-ghost use Rattle.nickcompare.specs.ComparedFiles.{ReadInto, comparison_read};
+ghost use Rattle.nickcompare.specs.ComparedFiles.{Compares};
 
-use comparison::Compared;
-use files::Pair;
-use nick::RECORD_BYTES;
+use comparison::{Differences, Refused, Side};
+use files::{DOTS_MOST, Error, RECORDS_MOST};
 use print::{print_differences, print_refused};
 use std::env::Env;
 use std::rt::Files;
-use text::Number;
 
 // The arguments.
 const HEIGHT: usize = 1;
@@ -27,133 +23,84 @@ const FRAME: usize = 4;
 
 const FRAME_RECORDS: usize = 5;
 
-const USAGE: [u8; 127] =
-    *b"usage: nickcompare HEIGHT CAPTURE CAPTURE-RECORDS FRAME FRAME-RECORDS; CAPTURE and FRAME are 736 bytes a line, their records 7\n";
+// The room for dots and for records: one byte more than is allowed, so that a longer file shows.
+const DOTS_ROOM: usize = DOTS_MOST + 1;
 
-// Compares what was read of the files.
+const RECORDS_ROOM: usize = RECORDS_MOST + 1;
+
+// What is read of a side.
+#[derive(Drop)]
+struct Room {
+    dots: [u8; DOTS_ROOM],
+    records: [u8; RECORDS_ROOM],
+}
+
+const USAGE: &str =
+    "usage: nickcompare HEIGHT CAPTURE CAPTURE-RECORDS FRAME FRAME-RECORDS; CAPTURE and FRAME are 736 bytes a line, their records 7";
+
+// Compares what was read: of each side its dots and its records. The first dot that differs is in both.
+#[tactic(auto, using(crate::proofs::FirstDot::compares))]
 fn compare_read(
     height: usize,
-    captured: Pair,
-    framed: Pair,
-    capture: &[u8],
-    capture_records: &[u8],
-    frame: &[u8],
-    frame_records: &[u8],
-) -> Compared
-    requires { ReadInto captured capture.now capture_records.now × ReadInto framed frame.now frame_records.now }
-    ensures { answered result ≡ comparison_read height captured framed capture.now capture_records.now frame.now frame_records.now }
+    capture: (&[u8], &[u8]),
+    frame: (&[u8], &[u8]),
+) -> Result<Differences, Refused>
+    ensures { Compares height capture.entry.0.now capture.entry.1.now frame.entry.0.now frame.entry.1.now result }
 {
-    let capture_end = captured.first;
-    let capture_records_end = captured.second;
-    let frame_end = framed.first;
-    let frame_records_end = framed.second;
-    comparison::compare(
-        height,
-        &capture[..capture_end],
-        &capture_records[..capture_records_end],
-        &frame[..frame_end],
-        &frame_records[..frame_records_end],
-    )
+    let (dots, records) = capture;
+    let capture = Side { dots, records };
+    let (dots, records) = frame;
+    let frame = Side { dots, records };
+    comparison::compare(height, capture, frame)
 }
 
 // Prints what the comparison of what was read answers.
 fn print_comparison(
     rt: &impl Print,
     height: usize,
-    captured: Pair,
-    framed: Pair,
-    capture: &[u8],
-    capture_records: &[u8],
-    frame: &[u8],
-    frame_records: &[u8],
-)
-    requires { ReadInto captured capture.now capture_records.now × ReadInto framed frame.now frame_records.now }
-{
-    match compare_read(
-        height,
-        captured,
-        framed,
-        capture,
-        capture_records,
-        frame,
-        frame_records,
-    ) {
-        Compared::Refused(refusal) => print_refused(rt, refusal),
-        Compared::Found(found) => print_differences(rt, found, captured.first, capture, frame),
-    }
-}
-
-// Reads the files in the order of the arguments, and compares.
-fn compare_files(
-    rt: &(impl Files + Env + Print),
-    height: usize,
-    capture: &mut [u8],
-    capture_records: &mut [u8],
-    frame: &mut [u8],
-    frame_records: &mut [u8],
+    capture: (&[u8], &[u8]),
+    frame: (&[u8], &[u8]),
 ) {
-    let captured = files::read_pair(rt, CAPTURE, CAPTURE_RECORDS, capture, capture_records);
-    if captured.unread != 0 {
-        files::print_unreadable(rt, captured.unread);
-        return;
+    match compare_read(height, capture, frame) {
+        Ok(found) => print_differences(rt, found, capture.0, frame.0),
+        Err(refused) => print_refused(rt, refused),
     }
-    let framed = files::read_pair(rt, FRAME, FRAME_RECORDS, frame, frame_records);
-    if framed.unread != 0 {
-        files::print_unreadable(rt, framed.unread);
-        return;
-    }
-    print_comparison(
-        rt,
-        height,
-        captured,
-        framed,
-        capture,
-        capture_records,
-        frame,
-        frame_records,
-    );
 }
 
 // Does what the arguments ask.
-fn run_lent(
-    rt: &(impl Files + Env + Print),
-    capture: &mut [u8],
-    capture_records: &mut [u8],
-    frame: &mut [u8],
-    frame_records: &mut [u8],
-) {
+fn run(rt: &(impl Files + Env + Print), capture: &mut Room, frame: &mut Room) -> Result<(), Error> {
     if files::argument_count(rt) != FRAME_RECORDS + 1 {
-        files::print_usage(rt, &USAGE);
-        return;
+        return Err(Error::Usage);
     }
-    let Number::Value(height) = files::number_argument(rt, HEIGHT) else {
-        files::print_usage(rt, &USAGE);
-        return;
-    };
-    compare_files(rt, height, capture, capture_records, frame, frame_records);
-}
-
-// Each buffer holds one byte more than is allowed, so that a longer file shows.
-fn run(
-    rt: &(impl Files + Env + Print),
-    capture: &mut [u8; 753665],
-    capture_records: &mut [u8; 1024 * RECORD_BYTES + 1],
-    frame: &mut [u8; 753665],
-    frame_records: &mut [u8; 1024 * RECORD_BYTES + 1],
-) {
-    run_lent(rt, capture, capture_records, frame, frame_records);
+    let height = files::number_argument(rt, HEIGHT).ok_or(Error::Usage)?;
+    let capture = files::read_pair(
+        rt,
+        CAPTURE,
+        CAPTURE_RECORDS,
+        &mut capture.dots,
+        &mut capture.records,
+    )?;
+    let frame = files::read_pair(
+        rt,
+        FRAME,
+        FRAME_RECORDS,
+        &mut frame.dots,
+        &mut frame.records,
+    )?;
+    print_comparison(rt, height, capture, frame);
+    Ok(())
 }
 
 fn main(rt: HostRuntime) {
-    let mut capture = [0u8; 753665];
-    let mut capture_records = [0u8; 1024 * RECORD_BYTES + 1];
-    let mut frame = [0u8; 753665];
-    let mut frame_records = [0u8; 1024 * RECORD_BYTES + 1];
-    run(
-        &rt,
-        &mut capture,
-        &mut capture_records,
-        &mut frame,
-        &mut frame_records,
-    );
+    let mut capture = Room {
+        dots: [0; DOTS_ROOM],
+        records: [0; RECORDS_ROOM],
+    };
+    let mut frame = Room {
+        dots: [0; DOTS_ROOM],
+        records: [0; RECORDS_ROOM],
+    };
+    if let Err(error) = run(&rt, &mut capture, &mut frame) {
+        files::print_error(&rt, error, USAGE);
+    }
 }

@@ -6,20 +6,18 @@
 
 mod print;
 
-ghost use Rattle.std.specs.Prelude.{◌≡◌, ◌*◌, ◌&&◌, eqb, leb, length};
+ghost use Rattle.std.specs.Prelude.{◌≡◌, ◌*◌, cond, leb, length};
 ghost use Rattle.nick.specs.Registers.{fresh_state};
 ghost use Rattle.nick.specs.Sizes.{record_bytes};
 ghost use Rattle.script.specs.Answers.{Runs};
 ghost use Rattle.nickrun.specs.Buffers.{lines_lent};
 
-use files::{Places, RAM};
-use lists::smaller;
+use files::{DOTS_MOST, Error, Places, RAM, RAM_ROOM, RECORDS_MOST};
 use nick::RECORD_BYTES;
 use print::print_ran;
-use script::{Outcome, Ran};
+use script::{Failure, Ran};
 use std::env::Env;
 use std::rt::Files;
-use text::Number;
 
 // The arguments after RAM.
 const SCRIPT: usize = 2;
@@ -39,7 +37,7 @@ const PLACES: Places = Places {
 };
 
 // How many bytes of dots and of records are lent to a run.
-#[derive(Clone, Copy)]
+#[derive(Clone, Copy, PartialEq, Eq)]
 struct Lent {
     dots: usize,
     records: usize,
@@ -48,21 +46,35 @@ struct Lent {
 // The bytes of the longest script that is run: 65,536 steps.
 const LONGEST: usize = 196608;
 
-const USAGE: [u8; 176] =
-    *b"usage: nickrun RAM SCRIPT DOTS RECORDS [EXTERNAL]; SCRIPT is steps of three bytes, kind, port and data, at most 65,536; DOTS and RECORDS are two files, and neither is an input\n";
+// What is read and what is painted. What is read has one byte more than is allowed, so that a longer file shows.
+#[derive(Drop)]
+struct Buffers {
+    ram: [u8; RAM_ROOM],
+    script: [u8; LONGEST + 1],
+    dots: [u8; DOTS_MOST],
+    records: [u8; RECORDS_MOST],
+    external: [u8; DOTS_MOST + 1],
+}
 
-// Whether RAM and SCRIPT can be used: both are read, and SCRIPT is not too long. Prints why where not.
-fn check_inputs(rt: &(impl Env + Print), unread: usize, script: usize) -> bool
-    ensures { result ≡ (eqb unread 0 && leb script 196608) }
+const USAGE: &str =
+    "usage: nickrun RAM SCRIPT DOTS RECORDS [EXTERNAL]; SCRIPT is steps of three bytes, kind, port and data, at most 65,536; DOTS and RECORDS are two files, and neither is an input";
+
+// The script, where it is not too long.
+fn runnable(script: &[u8]) -> Result<&[u8], Error>
+    ensures { result ≡ cond (leb (length script.now) 196608) (Ok script.entry) (Err Error.Usage) }
 {
-    files::check_read(rt, unread, script <= LONGEST, &USAGE)
+    if script.len() <= LONGEST {
+        Ok(script)
+    } else {
+        Err(Error::Usage)
+    }
 }
 
 // What is lent: dots and a record for each line that the script asks for. A run of more than 1,024 is refused before they count.
 fn lent_for(script: &[u8]) -> Lent
     ensures { (result.dots ≡ 736 * lines_lent script.now) × (result.records ≡ record_bytes * lines_lent script.now) }
 {
-    let lines = smaller(script::lines_in(script), 1024);
+    let lines = script::lines_in(script).min(1024);
     Lent {
         dots: 736 * lines,
         records: RECORD_BYTES * lines,
@@ -82,131 +94,65 @@ fn run_script(
     script::run(nick::fresh(), ram, script, dots, records, external)
 }
 
-// Runs what the files hold, writes what is painted and prints how the run ended, or prints the refusal.
+// Runs what the files hold, writes what is painted and prints how the run ended.
 fn run_files(
     rt: &(impl Files + Env + Print),
     ram: &[u8],
     script: &[u8],
-    dots: &mut [u8],
-    records: &mut [u8],
+    dots: &mut [u8; DOTS_MOST],
+    records: &mut [u8; RECORDS_MOST],
     external: &[u8],
-)
-    requires { (length dots.old ≡ 753664) × (length records.old ≡ 1024 * record_bytes) }
-{
+) -> Result<(), Error> {
     let lent = lent_for(script);
-    let dots_end = lent.dots;
-    let records_end = lent.records;
-    let ran = run_script(
+    let dots = &mut dots[..lent.dots];
+    let records = &mut records[..lent.records];
+    let ran = run_script(ram, script, dots, records, external);
+    if let Err(Failure::Refused(refusal)) = ran.outcome {
+        return Err(Error::Refused(refusal));
+    }
+    files::write_outputs(rt, PLACES, dots, records)?;
+    print_ran(rt, ran);
+    Ok(())
+}
+
+// Reads the files, stamps RECORDS for the lines that the script asks for, and runs.
+fn run(rt: &(impl Files + Env + Print), buffers: &mut Buffers) -> Result<(), Error> {
+    let (ram, script) = files::read_pair(rt, RAM, SCRIPT, &mut buffers.ram, &mut buffers.script)?;
+    let script = runnable(script)?;
+    files::stamp_lines(rt, PLACES, Some(script::lines_in(script)))?;
+    let external = files::read_optional(rt, EXTERNAL, &mut buffers.external)?;
+    run_files(
+        rt,
         ram,
         script,
-        &mut dots[0..dots_end],
-        &mut records[0..records_end],
-        external,
-    );
-    let outcome = ran.outcome;
-    if let Outcome::Refused(refusal) = outcome {
-        files::print_refusal(rt, refusal);
-        return;
-    }
-    if files::write_outputs(rt, PLACES, &dots[0..dots_end], &mut records[0..records_end]) {
-        print_ran(rt, ran);
-    }
-}
-
-// Stamps RECORDS for the lines that the script asks for, reads EXTERNAL, where it is given, and runs. Answers as run_lent.
-fn run_read(
-    rt: &(impl Files + Env + Print),
-    is_given: bool,
-    ram: &[u8],
-    script: &[u8],
-    dots: &mut [u8],
-    records: &mut [u8],
-    external: &mut [u8],
-) -> bool
-    requires { (length dots.old ≡ 753664) × (length records.old ≡ 1024 * record_bytes) }
-{
-    if !files::stamp_lines(rt, PLACES, Number::Value(script::lines_in(script))) {
-        return true;
-    }
-    let read = files::read_optional(rt, EXTERNAL, is_given, external);
-    if !read.is_read {
-        return false;
-    }
-    let end = read.length;
-    run_files(rt, ram, script, dots, records, &external[0..end]);
-    true
-}
-
-// Reads the files and runs. Answers false where EXTERNAL could not be read, which is then to be told.
-fn run_lent(
-    rt: &(impl Files + Env + Print),
-    is_given: bool,
-    ram: &mut [u8],
-    script: &mut [u8],
-    dots: &mut [u8],
-    records: &mut [u8],
-    external: &mut [u8],
-) -> bool
-    requires { (length dots.old ≡ 753664) × (length records.old ≡ 1024 * record_bytes) }
-{
-    let read = files::read_pair(rt, RAM, SCRIPT, ram, script);
-    if !check_inputs(rt, read.unread, read.second) {
-        return true;
-    }
-    let ram_end = read.first;
-    let script_end = read.second;
-    run_read(
-        rt,
-        is_given,
-        &ram[0..ram_end],
-        &script[0..script_end],
-        dots,
-        records,
+        &mut buffers.dots,
+        &mut buffers.records,
         external,
     )
 }
 
-// Each buffer that is read into holds one byte more than is allowed, so that a longer file shows.
-fn run(
-    rt: &(impl Files + Env + Print),
-    is_given: bool,
-    ram: &mut [u8; 65537],
-    script: &mut [u8; LONGEST + 1],
-    dots: &mut [u8; 753664],
-    records: &mut [u8; 1024 * RECORD_BYTES],
-    external: &mut [u8; 753665],
-) -> bool {
-    run_lent(rt, is_given, ram, script, dots, records, external)
+// Makes room for the buffers, some 1.8 MB, and runs. It is not to be part of its caller: there must be no buffers before RECORDS is
+// stamped. check_example tries it.
+#[inline(never)]
+fn run_in_buffers(rt: &(impl Files + Env + Print)) -> Result<(), Error> {
+    let mut buffers = Buffers {
+        ram: [0; RAM_ROOM],
+        script: [0; LONGEST + 1],
+        dots: [0; DOTS_MOST],
+        records: [0; RECORDS_MOST],
+        external: [0; DOTS_MOST + 1],
+    };
+    run(rt, &mut buffers)
 }
 
-// Makes room for the buffers, some 1.8 MB, and runs.
-fn run_in_buffers(rt: &(impl Files + Env + Print), is_given: bool) -> bool {
-    let mut ram = [0u8; 65537];
-    let mut script = [0u8; LONGEST + 1];
-    let mut dots = [0u8; 753664];
-    let mut records = [0u8; 1024 * RECORD_BYTES];
-    let mut external = [0u8; 753665];
-    run(
-        rt,
-        is_given,
-        &mut ram,
-        &mut script,
-        &mut dots,
-        &mut records,
-        &mut external,
-    )
+// Stamps RECORDS, and runs.
+fn run_stamped(rt: &(impl Files + Env + Print)) -> Result<(), Error> {
+    files::begin(rt, PLACES, None)?;
+    run_in_buffers(rt)
 }
 
-// run_in_buffers is called in two places, so that there are no buffers before RECORDS is stamped: nickpaint's main says why.
 fn main(rt: HostRuntime) {
-    if !files::begin(&rt, PLACES, Number::Missing, &USAGE) {
-        return;
-    }
-    if !files::is_given(&rt, EXTERNAL) {
-        run_in_buffers(&rt, false);
-        return;
-    }
-    if !run_in_buffers(&rt, true) {
-        files::print_unreadable(&rt, EXTERNAL);
+    if let Err(error) = run_stamped(&rt) {
+        files::print_error(&rt, error, USAGE);
     }
 }

@@ -3,75 +3,66 @@ ghost use Rattle.std.specs.Prelude.{◌≡◌};
 ghost use Rattle.comparison.specs.Answers.{side_of, place_of, told_by, found_by};
 ghost use Rattle.packing.specs.Compared.{side_number, packed_told, signed_byte, place_bytes, found_bytes};
 
-use comparison::{Differences, First, Refusal, Side};
-use lists::{high, low};
+use comparison::{Differences, Named, Place, Refused};
 
 // The side that a refusal names, as a number.
-pub fn side_number(side: Side) -> u8
+pub fn side_number(side: Option<Named>) -> u8
     ensures { result ≡ side_number (side_of side) }
 {
     match side {
-        Side::Neither => 0,
-        Side::Capture => 1,
-        Side::Frame => 2,
+        None => 0,
+        Some(Named::Capture) => 1,
+        Some(Named::Frame) => 2,
     }
 }
 
 // Bits 0 to 7 the refusal, bits 8 to 15 the side.
-pub fn packed_refusal(refusal: Refusal) -> u32
-    ensures { result ≡ packed_told (told_by refusal) }
+pub fn packed_refusal(refused: Refused) -> u32
+    ensures { result ≡ packed_told (told_by refused) }
 {
-    let side = refusal.side;
-    refusal.number as u32 + 256 * (side_number(side) as u32)
+    u32::from_le_bytes([u8::from(refused.refusal), side_number(refused.side), 0, 0])
 }
 
 // A difference as a signed byte.
 fn signed_byte(difference: i32) -> u8
     ensures { result ≡ signed_byte difference }
 {
-    if difference < 0 {
-        (255 - (-1 - difference) as u32 % 256) as u8
-    } else {
-        (difference as u32 % 256) as u8
-    }
+    let [byte, ..] = difference.to_le_bytes();
+    byte
 }
 
 // The first dot's line and place in the line, 65,535 both if there is none.
-fn place_bytes(first: First) -> [u8; 4]
+fn place_bytes(first: Option<Place>) -> [u8; 4]
     ensures { result ≡ place_bytes (place_of first) }
 {
-    match first {
-        First::Nowhere => [255, 255, 255, 255],
-        First::At(line, dot) => [low(line), high(line), low(dot), high(dot)],
-    }
+    let Some(place) = first else {
+        return [255; 4];
+    };
+    let [line, high_line] = place.line.to_le_bytes();
+    let [dot, high_dot] = place.dot.to_le_bytes();
+    [line, high_line, dot, high_dot]
 }
 
 // What is found, as bytes.
 pub fn found_bytes(found: Differences) -> [u8; 14]
     ensures { result ≡ found_bytes (found_by found) }
 {
-    let count = found.count;
-    let first = found.first;
-    let place = place_bytes(first);
-    let red = found.red;
-    let green = found.green;
-    let blue = found.blue;
-    let lower = (count % 65536) as u16;
-    let upper = (count / 65536) as u16;
+    let count = found.count.to_le_bytes();
+    let place = place_bytes(found.first);
     [
-        low(lower),
-        high(lower),
-        low(upper),
-        high(upper),
+        count[0],
+        count[1],
+        count[2],
+        count[3],
         place[0],
         place[1],
         place[2],
         place[3],
-        signed_byte(red.smallest),
-        signed_byte(red.largest),
-        signed_byte(green.smallest),
-        signed_byte(green.largest),
-        signed_byte(blue.smallest),
-        signed_byte(blue.largest),
+        signed_byte(found.red.smallest),
+        signed_byte(found.red.largest),
+        signed_byte(found.green.smallest),
+        signed_byte(found.green.largest),
+        signed_byte(found.blue.smallest),
+        signed_byte(found.blue.largest),
     ]
 }

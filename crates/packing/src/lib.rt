@@ -11,7 +11,7 @@ ghost use Rattle.nick.specs.Listing.{list_answered};
 ghost use Rattle.packing.specs.Packed.{packed_addresses, packed_answer, packed_listed, packed_levels, length_of};
 
 pub use compared::{found_bytes, packed_refusal, side_number};
-use nick::{Answer, Levels, Listed, Sources};
+use nick::{Answer, Levels, Refusal, Sources};
 pub use runs::{packed_ran, run_refusal};
 
 // Bits 16 to 23 how many addresses, 24 to 39 and 40 to 55 the addresses in order.
@@ -20,29 +20,29 @@ fn packed_sources(sources: Sources) -> u64
 {
     match sources {
         Sources::Nothing => 0,
-        Sources::One(a) => 65536 + 16777216 * (a as u64),
-        Sources::Two(a, b) => 131072 + 16777216 * (a as u64) + 1099511627776 * (b as u64),
+        Sources::One(a) => (1 << 16) + (u64::from(a) << 24),
+        Sources::Two(a, b) => (2 << 16) + (u64::from(a) << 24) + (u64::from(b) << 40),
     }
 }
 
 // Bits 0 to 7 the refusal, 8 to 15 the colour, then where it came from.
-pub fn packed_answer(answer: Answer) -> u64
+pub fn packed_answer(answer: Result<Answer, Refusal>) -> u64
     ensures { result ≡ packed_answer (answered answer) }
 {
     match answer {
-        Answer::Refused(n) => n as u64,
-        Answer::Colour(c, sources) => 256 * (c as u64) + packed_sources(sources),
+        Ok(answer) => (u64::from(answer.colour) << 8) + packed_sources(answer.sources),
+        Err(refusal) => u64::from(u8::from(refusal)),
     }
 }
 
 // Bits 0 to 31 the refusal, 32 to 63 the length.
-pub fn packed_listed(listed: Listed) -> u64
+pub fn packed_listed(listed: Result<usize, Refusal>) -> u64
     requires { length_of (list_answered listed) < 2 ^ 32 }
     ensures { result ≡ packed_listed (list_answered listed) }
 {
     match listed {
-        Listed::Length(n) => 4294967296 * (n as u64),
-        Listed::Refused(n) => n as u64,
+        Ok(length) => (length as u64) << 32,
+        Err(refusal) => u64::from(u8::from(refusal)),
     }
 }
 
@@ -50,5 +50,5 @@ pub fn packed_listed(listed: Listed) -> u64
 pub fn packed_levels(levels: Levels) -> u32
     ensures { result ≡ packed_levels levels }
 {
-    levels.red as u32 + 256 * (levels.green as u32) + 65536 * (levels.blue as u32)
+    u32::from_le_bytes([levels.red, levels.green, levels.blue, 0])
 }

@@ -1,4 +1,4 @@
-pub mod RefusalTable
+pub mod Numbers
 pub mod LinesTable
 pub mod OwnLine
 pub mod FrameLines

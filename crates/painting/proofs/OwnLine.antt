@@ -1,12 +1,14 @@
 -- A line sees no external bytes but its own, so those of its part are as good as all.
 use mathlib.Core.Path.{◌≡◌, refl, sym, ap, ◌∙◌}
 use mathlib.Core.Bool.{Bool, true, false}
-use mathlib.Core.List.{List}
+use mathlib.Core.List.{List, ◌++◌}
 use Prim.Native.Nat.{ℕ, ◌+◌, ◌-◌, ◌*◌, ◌/◌, ◌%◌, ◌<◌, ◌≤◌, min}
 use native.Mathlib.Omega.{arith}
 use lib.Dec.{ltb}
 use lib.ListN.{length, get_or, take, drop, length-take, get_or-eq_default}
 use lib.Seq.{get_or-take, get_or-drop, ext_get_or}
+use borrow.Rule.Slice.PartMut.{put_mid}
+use Rattle.nick.specs.Sizes.{record_bytes}
 use borrow.Author.Tests.{ltb-true, ltb-false}
 use Rattle.nick.specs.Numbers.{byte_at}
 use Rattle.nick.specs.Blocks.{begun}
@@ -48,3 +50,10 @@ pub own_line : (g : Registers) (ram : List ℕ) (c : Scan) (external : List ℕ)
 own_line g ram c external y from to p q =
     lines_same g ram c (byte_at (take (to - from) (drop from external))) (external_at external y)
     (λ x l. part_byte external (736 * y) 736 from to x p q l)
+
+-- the part of a buffer that line y has, put back
+pub dots_put : (y k : ℕ) (buffer part : List ℕ) → k ≡ 736 → put_mid (736 * y) k buffer part ≡ take (736 * y) buffer ++ (part ++ drop 736 (drop (736 * y) buffer))
+dots_put y k buffer part e = rw e refl
+
+pub record_put : (y k : ℕ) (buffer part : List ℕ) → k ≡ record_bytes → put_mid (record_bytes * y) k buffer part ≡ take (record_bytes * y) buffer ++ (part ++ drop record_bytes (drop (record_bytes * y) buffer))
+record_put y k buffer part e = rw e refl

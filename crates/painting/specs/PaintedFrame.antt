@@ -1,11 +1,11 @@
 -- What the painting of a frame and its lines answer, as equations with the rules.
-use Rattle.std.specs.Prelude.{ℕ, ◌*◌, ◌≡◌, List, ◌++◌, take, drop}
+use Rattle.std.specs.Prelude.{Result, ℕ, ◌*◌, ◌≡◌, List, ◌++◌, take, drop}
 use Rattle.nick.specs.Sizes.{record_bytes}
 use Rattle.nick.specs.Scanline.{line_dots}
 use Rattle.nick.specs.Record.{line_record, next_state, state_after}
-use Rattle.nick.specs.Refusals.{Formed}
+use Rattle.nick.specs.Refusals.{Formed, refusal_in}
 use Rattle.nick.specs.Painting.{external_at, frame_dots, frame_records, paint}
-use Rattle.nick.specs.declared.Painted.{Painted}
+use Rattle.nick.specs.declared.refusal.Refusal.{Refusal}
 use Rattle.nick.specs.declared.State.{State}
 
 -- line y painted into its parts of the buffers
@@ -25,8 +25,8 @@ pub record Frame (s : State) (ram : List ℕ) (h : ℕ) (external dots₁ record
   pub state : r ≡ state_after ram h s
 
 -- The promise of both paintings: the answer, the state, the dots and the records are those of the rules' painting.
-pub record Paints (s : State) (ram : List ℕ) (h : ℕ) (dots₀ records₀ external dots₁ records₁ : List ℕ) (r : Painted) : Type 0 where
-  pub refusal : r.refusal ≡ (paint s ram h dots₀ records₀ external).refusal
-  pub state : r.state ≡ (paint s ram h dots₀ records₀ external).state
+pub record Paints (s : State) (ram : List ℕ) (h : ℕ) (dots₀ records₀ external dots₁ records₁ : List ℕ) (t : State) (r : Result (Unit {0}) Refusal) : Type 0 where
+  pub refusal : refusal_in r ≡ (paint s ram h dots₀ records₀ external).refusal
+  pub state : t ≡ (paint s ram h dots₀ records₀ external).state
   pub dots : dots₁ ≡ (paint s ram h dots₀ records₀ external).dots
   pub records : records₁ ≡ (paint s ram h dots₀ records₀ external).records

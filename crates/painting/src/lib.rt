@@ -6,58 +6,25 @@ mod lines;
 
 ghost use Rattle.std.specs.Prelude.{◌≡◌, ◌+◌, ◌*◌, ◌<◌, ◌≤◌, length};
 ghost use Rattle.nick.specs.Sizes.{record_bytes};
-ghost use Rattle.nick.specs.Refusals.{Formed, Accepted, painting_refusal};
+ghost use Rattle.nick.specs.Refusals.{Formed, Accepted};
 ghost use Rattle.painting.specs.PaintedFrame.{NextLine, Frame, Paints};
 
 pub use lines::lines_refusal;
-use lists::smaller;
-use nick::{Painted, RECORD_BYTES, State};
-use refusals::{is_bad_external, is_bad_height, is_bad_length, is_ill_formed, is_not_full};
+use nick::{RECORD_BYTES, Ram, Refusal, State};
+use refusals::{is_bad_height, stamp};
 use scanline::paint_scanline;
 
-// The refusal of a painting, 0 for none: the tests in the order of their numbers.
-#[tactic(auto, using(nick::proofs::Refusals::height_most))]
-fn refusal(
-    state: State,
-    ram: &[u8],
-    height: usize,
-    dots: &[u8],
-    records: &[u8],
-    external: &[u8],
-) -> u8
-    ensures { result ≡ painting_refusal state ram.now height dots.now records.now external.now }
-{
-    if is_ill_formed(state.scan) {
-        return 3;
-    }
-    if is_not_full(ram) {
-        return 4;
-    }
-    if is_bad_height(height) {
-        return 5;
-    }
-    if is_bad_length(dots.len(), 736, height) {
-        return 6;
-    }
-    if is_bad_length(records.len(), RECORD_BYTES, height) {
-        return 7;
-    }
-    if is_bad_external(external.len(), height) {
-        return 8;
-    }
-    0
-}
-
 // Paints line `y` of a frame into its parts of the buffers, with its own part of the external input; it is never refused.
+#[tactic(auto, using(nick::proofs::WellFormed::next_state_formed, crate::proofs::OwnLine::own_line, crate::proofs::OwnLine::dots_put, crate::proofs::OwnLine::record_put))]
 pub fn next_line(
     state: State,
-    ram: &[u8],
+    ram: &Ram,
     y: usize,
     dots: &mut [u8],
     records: &mut [u8],
     external: &[u8],
 ) -> State
-    requires ram_len { (length ram.now ≡ 65536) × (y < 1024) × (736 * y + 736 ≤ length dots.old) × (record_bytes * y + record_bytes ≤ length records.old) }
+    requires room { (y < 1024) × (736 * y + 736 ≤ length dots.old) × (record_bytes * y + record_bytes ≤ length records.old) }
     requires formed { Formed state.scan }
     ensures { NextLine state ram.now y external.now dots.old dots.new records.old records.new result }
 {
@@ -65,8 +32,8 @@ pub fn next_line(
     let e = a + 736;
     let b = RECORD_BYTES * y;
     let f = b + RECORD_BYTES;
-    let from = smaller(a, external.len());
-    let to = smaller(e, external.len());
+    let from = a.min(external.len());
+    let to = e.min(external.len());
     paint_scanline(
         state,
         ram,
@@ -77,9 +44,10 @@ pub fn next_line(
 }
 
 // Paints the lines of a frame that is not refused.
+#[tactic(auto, using(crate::proofs::FrameLines::dots_more, crate::proofs::FrameLines::records_more, crate::proofs::FrameLines::state_more))]
 fn paint_accepted(
     state: State,
-    ram: &[u8],
+    ram: &Ram,
     height: usize,
     dots: &mut [u8],
     records: &mut [u8],
@@ -89,43 +57,46 @@ fn paint_accepted(
     ensures { Frame state ram.now height external.now dots.new records.new result }
 {
     let mut next = state;
-    let mut y = 0;
-    while y < height {
+    for y in 0..height {
         next = next_line(next, ram, y, dots, records, external);
-        y += 1;
     }
     next
 }
 
 // Paints `height` scanlines, or refuses: then the state and the dots stay, and every record byte is 255.
+#[tactic(auto, using(crate::proofs::FrameLines::refused_paint, crate::proofs::FrameLines::accepted_paint, crate::proofs::FrameLines::accepted_fits), unfolding(nick::specs::Painting::painted, nick::specs::Painting::refused_painting))]
 pub fn paint_lines(
-    state: State,
+    state: &mut State,
     ram: &[u8],
     height: usize,
     dots: &mut [u8],
     records: &mut [u8],
     external: &[u8],
-) -> Painted
-    ensures { Paints state ram.now height dots.old records.old external.now dots.new records.new result }
+) -> Result<(), Refusal>
+    ensures { Paints state.old ram.now height dots.old records.old external.now dots.new records.new state.new result }
 {
-    let refusal = refusal(state, ram, height, dots, records, external);
-    if refusal != 0 {
-        lists::fill(records, 255);
-        return Painted { refusal, state };
+    let bad_height = is_bad_height(height);
+    match lines_refusal(bad_height, *state, ram, height, dots, records, external) {
+        Ok(ram) => {
+            *state = paint_accepted(*state, ram, height, dots, records, external);
+            Ok(())
+        }
+        Err(refusal) => {
+            stamp(records);
+            Err(refusal)
+        }
     }
-    let state = paint_accepted(state, ram, height, dots, records, external);
-    Painted { refusal: 0, state }
 }
 
 // Paints one scanline, or refuses.
 pub fn paint_line(
-    state: State,
+    state: &mut State,
     ram: &[u8],
     dots: &mut [u8],
     records: &mut [u8],
     external: &[u8],
-) -> Painted
-    ensures { Paints state ram.now 1 dots.old records.old external.now dots.new records.new result }
+) -> Result<(), Refusal>
+    ensures { Paints state.old ram.now 1 dots.old records.old external.now dots.new records.new state.new result }
 {
     paint_lines(state, ram, 1, dots, records, external)
 }

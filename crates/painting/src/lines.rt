@@ -1,41 +1,41 @@
 // The refusal table of every call that paints lines, with the call's own test of its height.
-ghost use Rattle.std.specs.Prelude.{◌≡◌, false, ◌≤◌};
-ghost use Rattle.nick.specs.Refusals.{lines_refusal};
+ghost use Rattle.std.specs.Prelude.{◌≡◌, false, ◌≤◌, IfOk};
+ghost use Rattle.nick.specs.Refusals.{refusal_in, lines_refusal};
 
-use nick::{RECORD_BYTES, State};
-use refusals::{is_bad_external, is_bad_length, is_ill_formed, is_not_full};
+use nick::{RECORD_BYTES, Ram, Refusal, State};
+use refusals::{is_bad_external, is_bad_length, is_ill_formed, whole};
 
-// The refusal of a call that paints `height` lines, 0 for none: the tests in the order of their numbers. The call's own test of the
-// height, number 5, is made before.
-pub fn lines_refusal(
+// Why a call that paints `height` lines is refused, the tests being made in the order of their numbers; else the whole RAM. The
+// call's own test of the height, number 5, is made before.
+#[tactic(auto, unfolding(nick::specs::Refusals::lines_refusal))]
+pub fn lines_refusal<'a>(
     bad_height: bool,
     state: State,
-    ram: &[u8],
+    ram: &'a [u8],
     height: usize,
     dots: &[u8],
     records: &[u8],
     external: &[u8],
-) -> u8
+) -> Result<&'a Ram, Refusal>
     requires { bad_height ≡ false → height ≤ 1024 }
-    ensures { result ≡ lines_refusal bad_height state ram.now height dots.now records.now external.now }
+    ensures refusal { refusal_in result ≡ lines_refusal bad_height state ram.now height dots.now records.now external.now }
+    ensures same { IfOk result (λ whole. whole.now ≡ ram.now) }
 {
     if is_ill_formed(state.scan) {
-        return 3;
+        return Err(Refusal::IllFormedState);
     }
-    if is_not_full(ram) {
-        return 4;
-    }
+    let ram = whole(ram)?;
     if bad_height {
-        return 5;
+        return Err(Refusal::Height);
     }
     if is_bad_length(dots.len(), 736, height) {
-        return 6;
+        return Err(Refusal::DotsLength);
     }
     if is_bad_length(records.len(), RECORD_BYTES, height) {
-        return 7;
+        return Err(Refusal::RecordsLength);
     }
     if is_bad_external(external.len(), height) {
-        return 8;
+        return Err(Refusal::ExternalLength);
     }
-    0
+    Ok(ram)
 }

@@ -1,122 +1,68 @@
 // Family "comparisons" of second/README.md: captures compared with frames.
-mod call;
 mod sides;
 
-ghost use Rattle.std.specs.Prelude.{◌≡◌, ◌*◌, length};
-ghost use Rattle.nick.specs.Sizes.{record_bytes};
-
-use call::call_of;
-use cases::Case;
-use comparison::Compared;
+use cases::{Buffers, Case, Digest, Family, MOST_RECORDS, Report};
+use comparison::Side;
 use sides::{draw_dots, draw_records};
 
-// Draws the dots and the records of both sides.
-fn draw_sides(
-    drawn: Case,
-    capture: &mut [u8],
-    capture_records: &mut [u8],
-    frame: &mut [u8],
-    frame_records: &mut [u8],
-) {
-    let head = drawn.head;
-    let dotted = draw_dots(drawn.source, head, capture, frame);
-    let recorded = draw_records(dotted, cases::has_fault(head, 1), capture_records);
-    draw_records(recorded, cases::has_fault(head, 2), frame_records);
+// The family.
+pub const FAMILY: Family<'static> = Family {
+    name: "comparisons",
+    number: 7,
+    cases: 1000,
+    line: 25,
+};
+
+// Takes in the dots and the records of a side.
+fn digest_side(digest: &mut Digest, side: Side<'_>) {
+    digest.bytes(side.dots);
+    digest.bytes(side.records);
 }
 
-// The digest after all that a call is given.
-fn digest_call(
-    digest: u64,
-    height: usize,
-    capture: &[u8],
-    capture_records: &[u8],
-    frame: &[u8],
-    frame_records: &[u8],
-) -> u64 {
-    let asked = cases::digest_number(digest, height as u64);
-    let captured = cases::digest_bytes(cases::digest_bytes(asked, capture), capture_records);
-    cases::digest_bytes(cases::digest_bytes(captured, frame), frame_records)
-}
-
-// The refusal of an answer, 0 for none.
-fn refusal_of(answer: Compared) -> u8 {
-    match answer {
-        Compared::Refused(refusal) => refusal.number,
-        Compared::Found(_) => 0,
-    }
-}
-
-// The digest after a refusal and the side that it names.
-fn digest_refusal(digest: u64, refusal: u8, side: u8) -> u64 {
-    cases::digest_byte(cases::digest_byte(digest, refusal), side)
-}
-
-// The digest after an answer.
-fn digest_answer(digest: u64, answer: Compared) -> u64 {
-    match answer {
-        Compared::Refused(refusal) => {
-            let side = refusal.side;
-            digest_refusal(digest, refusal.number, packing::side_number(side))
+// Compares both sides.
+fn run_call(height: usize, capture: Side<'_>, frame: Side<'_>, report: &mut Report) {
+    report.digest.number(height);
+    digest_side(&mut report.digest, capture);
+    digest_side(&mut report.digest, frame);
+    match comparison::compare(height, capture, frame) {
+        Ok(found) => {
+            report.refusal(None);
+            report.digest.byte(0);
+            report.digest.bytes(&packing::found_bytes(found));
         }
-        Compared::Found(found) => {
-            let bytes = packing::found_bytes(found);
-            cases::digest_bytes(digest_refusal(digest, 0, 0), &bytes)
+        Err(refused) => {
+            report.refusal(Some(refused.refusal));
+            report.digest.byte(packing::side_number(refused.side));
         }
     }
 }
 
-// Draws both sides, compares them, and digests what was given and answered.
-fn run_call(
-    drawn: Case,
-    height: usize,
-    digest: u64,
-    capture: &mut [u8],
-    capture_records: &mut [u8],
-    frame: &mut [u8],
-    frame_records: &mut [u8],
-    tally: &mut [u64],
-) -> u64 {
-    draw_sides(drawn, capture, capture_records, frame, frame_records);
-    let given = digest_call(
-        digest,
-        height,
-        capture,
-        capture_records,
-        frame,
-        frame_records,
-    );
-    let answer = comparison::compare(height, capture, capture_records, frame, frame_records);
-    cases::count(tally, refusal_of(answer));
-    digest_answer(given, answer)
-}
-
-// The digest after one case.
-pub fn run_case(
-    case: u32,
-    digest: u64,
-    capture: &mut [u8],
-    capture_records: &mut [u8],
-    frame: &mut [u8],
-    frame_records: &mut [u8],
-    tally: &mut [u64],
-) -> u64
-    requires capture_len { (length capture.old ≡ 754400) × (length capture_records.old ≡ record_bytes * 1026) }
-    requires frame_len { (length frame.old ≡ 754400) × (length frame_records.old ≡ record_bytes * 1026) }
-{
-    let drawn = cases::begin(7, case);
-    let call = call_of(drawn.head);
-    let capture_end = call.capture;
-    let capture_records_end = call.capture_records;
-    let frame_end = call.frame;
-    let frame_records_end = call.frame_records;
-    run_call(
-        drawn,
-        call.height,
-        digest,
-        &mut capture[0..capture_end],
-        &mut capture_records[0..capture_records_end],
-        &mut frame[0..frame_end],
-        &mut frame_records[0..frame_records_end],
-        tally,
-    )
+// Runs one case: a comparison. The frame's dots stand in the buffer of external input.
+pub fn run_case(drawn: Case, buffers: &mut Buffers, report: &mut Report) {
+    let Case { mut source, head } = drawn;
+    let height = head.heights();
+    let lines = height.lent;
+    let Buffers {
+        dots,
+        records,
+        external,
+        ..
+    } = buffers;
+    let mut frame_records = [0u8; MOST_RECORDS];
+    let capture_dots = &mut dots[..lines.dots(head.wrong(4, head.t[7]))];
+    let capture_records = &mut records[..lines.records(head.wrong(5, head.t[8]))];
+    let frame_dots = &mut external[..lines.dots(head.wrong(0, head.t[4]))];
+    let frame_records = &mut frame_records[..lines.records(head.wrong(6, head.t[9]))];
+    draw_dots(&mut source, head, capture_dots, frame_dots);
+    draw_records(&mut source, head.has_fault(1), capture_records);
+    draw_records(&mut source, head.has_fault(2), frame_records);
+    let capture = Side {
+        dots: capture_dots,
+        records: capture_records,
+    };
+    let frame = Side {
+        dots: frame_dots,
+        records: frame_records,
+    };
+    run_call(height.asked, capture, frame, report);
 }

@@ -1,14 +1,19 @@
 // Family "listings" of second/README.md: listings of the line parameter table.
-ghost use Rattle.std.specs.Prelude.{◌≡◌, ◌<◌, ◌≤◌, length};
+ghost use Rattle.std.specs.Prelude.{◌≤◌};
 
-use nick::{Listed, Registers, State};
+use cases::{Case, Family, LongRam, Report, draw_plain_ram, no_reload};
+use nick::Registers;
 
-// Where a case stands after a call: the digest, and the listing's length, 0 if it was refused.
-#[derive(Clone, Copy)]
-struct Turn {
-    digest: u64,
-    length: usize,
-}
+// The family.
+pub const FAMILY: Family<'static> = Family {
+    name: "listings",
+    number: 3,
+    cases: 400,
+    line: 10,
+};
+
+// The longest output lent. No listing has more than 323,609 bytes.
+pub const OUTPUT_BYTES: usize = 330000;
 
 // Whether RELOAD is cleared in block n: in all, in most or in none.
 fn is_cleared(f: u8, n: usize) -> bool {
@@ -19,115 +24,52 @@ fn is_cleared(f: u8, n: usize) -> bool {
     }
 }
 
-// Clears RELOAD in one block.
-fn clear_block(f: u8, n: usize, ram: &mut [u8])
-    requires { (n < 4096) × (length ram.old ≡ 65537) }
-{
-    if is_cleared(f, n) {
-        let place = 16 * n + 1;
-        ram[place] = cases::no_reload(ram[place]);
-    }
-}
-
 // Clears RELOAD as the byte F says.
-fn clear_reload(f: u8, ram: &mut [u8])
-    requires { length ram.old ≡ 65537 }
-{
-    let mut n = 0;
-    while n < 4096 {
-        clear_block(f, n, ram);
-        n += 1;
+fn clear_reload(f: u8, ram: &mut LongRam) {
+    let (blocks, _) = ram.as_chunks_mut::<16>();
+    for (n, block) in blocks.iter_mut().enumerate() {
+        if is_cleared(f, n) {
+            block[1] = no_reload(block[1]);
+        }
     }
 }
 
-// The length of the second output, from P, Q and the length of the first listing. No listing has more than 323,609 bytes.
+// The length of the second output, from P, Q and the length of the first listing.
 fn output_length(p: u8, q: u8, whole: usize) -> usize
-    ensures { result ≤ 330000 }
+    ensures { result ≤ OUTPUT_BYTES }
 {
-    if whole > 323609 {
-        return 330000;
-    }
-    match p % 8 {
-        0 => { if whole == 0 { 0 } else { whole - 1 } }
+    let length = match p % 8 {
+        0 => whole.saturating_sub(1),
         1 => 0,
         2..=4 => whole,
-        5..=6 => whole + q as usize,
-        _ => 330000,
-    }
+        5..=6 => whole.saturating_add(usize::from(q)),
+        _ => OUTPUT_BYTES,
+    };
+    length.min(OUTPUT_BYTES)
 }
 
-// The refusal of an answer, 0 for none.
-fn refusal_of(answer: Listed) -> u8 {
-    match answer {
-        Listed::Refused(refusal) => refusal,
-        Listed::Length(_) => 0,
-    }
-}
-
-// The length of an answer, 0 if it was refused.
-fn length_of(answer: Listed) -> usize {
-    match answer {
-        Listed::Refused(_) => 0,
-        Listed::Length(length) => length,
-    }
-}
-
-// The digest after an answer: the refusal's number, then the length in four bytes.
-fn digest_answer(digest: u64, refusal: u8, length: usize) -> u64 {
-    cases::digest_number(cases::digest_byte(digest, refusal), length as u64)
-}
-
-// One call, with its answer and output in the digest.
-fn run_call(
-    digest: u64,
-    registers: Registers,
-    ram: &[u8],
-    out: &mut [u8],
-    tally: &mut [u64],
-) -> Turn {
-    lists::fill(out, 170);
+// Makes one call, and answers the listing's length, 0 if it was refused.
+fn run_call(registers: Registers, ram: &[u8], out: &mut [u8], report: &mut Report) -> usize {
+    out.fill(170);
     let answer = listing::list(registers, ram, out);
-    let refusal = refusal_of(answer);
-    let length = length_of(answer);
-    cases::count(tally, refusal);
-    let digest = digest_answer(digest, refusal, length);
-    Turn {
-        digest: cases::digest_bytes(digest, out),
-        length,
-    }
+    let length = answer.unwrap_or(0);
+    report.refusal(answer.err());
+    report.digest.number(length);
+    report.digest.bytes(out);
+    length
 }
 
-// What a case is given, and its two calls, the second lent an output of another length.
-fn run_calls(
-    digest: u64,
-    state: State,
-    p: u8,
-    q: u8,
-    ram: &[u8],
-    out: &mut [u8],
-    tally: &mut [u64],
-) -> u64
-    requires { length out.old ≡ 330000 }
-{
-    let registers = state.registers;
-    let given = cases::digest_given(digest, state, ram);
-    let first = run_call(given, registers, ram, out, tally);
-    let room = output_length(p, q, first.length);
-    let second = run_call(first.digest, registers, ram, &mut out[0..room], tally);
-    second.digest
-}
-
-// The digest after one case.
-pub fn run_case(case: u32, digest: u64, ram: &mut [u8], out: &mut [u8], tally: &mut [u64]) -> u64
-    requires { (length ram.old ≡ 65537) × (length out.old ≡ 330000) }
-{
-    let drawn = cases::begin(3, case);
-    let head = drawn.head;
-    let state = cases::faulty_state(head);
-    let mut bytes = [0u8; 2];
-    let source = cases::draw(drawn.source, &mut bytes);
-    cases::draw_plain_ram(source, ram);
+// Runs one case: two calls, the second lent an output of another length.
+pub fn run_case(drawn: Case, ram: &mut LongRam, out: &mut [u8; OUTPUT_BYTES], report: &mut Report) {
+    let Case { mut source, head } = drawn;
+    let p = source.byte();
+    let q = source.byte();
+    draw_plain_ram(&mut source, ram);
     clear_reload(head.f, ram);
-    let end = cases::ram_length(head);
-    run_calls(digest, state, bytes[0], bytes[1], &ram[0..end], out, tally)
+    let state = head.faulty_state();
+    let ram = &ram[..head.ram_length()];
+    report.given(state, ram);
+    let whole = run_call(state.registers, ram, out, report);
+    let room = output_length(p, q, whole);
+    run_call(state.registers, ram, &mut out[..room], report);
 }

@@ -1,8 +1,8 @@
-// The line record and how it is written, its flags, active slots and VC1, and sync through a scanline.
+// The line record and its bytes, its flags, active slots and VC1, and sync through a scanline.
 #![tactic(auto)]
 
 mod record;
 mod sync;
 
-pub use record::{Record, flag_byte, put_record, slots_byte, vc1_byte};
+pub use record::{Record, flag_byte, slots_byte, vc1_byte};
 pub use sync::{Sync, sync_line};

@@ -2,11 +2,11 @@
 ghost use Rattle.std.specs.Prelude.{◌<◌};
 ghost use Rattle.records.specs.Syncs.{Syncs, SyncStep};
 
-use blocks::{VSYNC, video_mode};
+use blocks::{VideoMode, video_mode};
 use nick::Block;
 
 // The level, and the slots counted at sync level.
-#[derive(Clone, Copy)]
+#[derive(Clone, Copy, PartialEq, Eq)]
 pub struct Sync {
     pub on: bool,
     pub count: u8,
@@ -17,40 +17,27 @@ fn pass_slot(block: Block, slot: u8, sync: Sync) -> Sync
     requires { sync.count < 255 }
     ensures { SyncStep block slot sync result }
 {
-    if slot == block.rm % 64 {
-        return Sync {
-            on: false,
-            count: sync.count,
-        };
+    let on = slot != block.rm % 64 && (slot == block.lm % 64 || sync.on);
+    Sync {
+        on,
+        count: sync.count + u8::from(on),
     }
-    if slot == block.lm % 64 {
-        return Sync {
-            on: true,
-            count: sync.count + 1,
-        };
-    }
-    if sync.on {
-        return Sync {
-            on: true,
-            count: sync.count + 1,
-        };
-    }
-    sync
 }
 
 // The level after a scanline, and its slots at sync level: off in every mode but VSYNC.
+#[tactic(auto, using(crate::proofs::Vsync::level_in_vsync, crate::proofs::Vsync::count_in_vsync), unfolding(nick::specs::Sync::line_sync, nick::specs::Sync::line_sync_count))]
 pub fn sync_line(block: Block, on: bool) -> Sync
     ensures { Syncs block on result }
 {
+    let VideoMode::Vsync = video_mode(block) else {
+        return Sync {
+            on: false,
+            count: 0,
+        };
+    };
     let mut sync = Sync { on, count: 0 };
-    if video_mode(block) != VSYNC {
-        sync.on = false;
-        return sync;
-    }
-    let mut slot: u8 = 0;
-    while slot < 57 {
+    for slot in 0..57 {
         sync = pass_slot(block, slot, sync);
-        slot += 1;
     }
     sync
 }

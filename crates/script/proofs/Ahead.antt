@@ -1,16 +1,29 @@
 -- The steps ahead of a place in a script: the one that stands there, and those after it; none past the last whole step.
-use mathlib.Core.Path.{◌≡◌, refl, ap, ◌∙◌}
+use mathlib.Core.Path.{◌≡◌, refl, ◌∙◌}
 use mathlib.Core.List.{List, [], ◌∷◌}
 use Prim.Native.Nat.{ℕ, suc, ◌+◌, ◌*◌, ◌<◌, ◌≤◌}
 use native.Mathlib.Omega.{arith}
-use lib.Dec.{eqb}
-use lib.ListN.{length, drop, length-drop}
-use lib.Seq.{drop-cons}
-use Rattle.lists.specs.Number.{number}
+use lib.ListN.{length, get_or, take, drop, length-drop}
+use lib.Seq.{drop-cons, get_or-take, get_or-drop}
+use native.Mathlib.Nat.{add-zero}
+use Rattle.std.specs.Simd.{first_chunks}
+use Rattle.lists.proofs.Laws.{chunk_at}
 use Rattle.nick.specs.Numbers.{byte_at}
-use Rattle.script.specs.Steps.{Step, steps_of, lines_in}
-use Rattle.script.specs.Answers.{step_at}
-use Rattle.script.proofs.StepLaws.{paints_kind}
+use Rattle.script.specs.Steps.{Step, step_of, steps_of}
+use Rattle.script.specs.Answers.{step_in}
+
+-- step `place` of a script
+abbrev pub step_at : List ℕ → ℕ → Step
+step_at script place = step_of (byte_at script (3 * place)) (byte_at script (3 * place + 1)) (byte_at script (3 * place + 2))
+
+-- it is that of its three bytes
+pub step_chunk :
+    (script : List ℕ) (place count : ℕ) → place < count → step_in (get_or (first_chunks 3 count script) place []) ≡ step_at script place
+step_chunk script place count h =
+    rw (chunk_at 3 count place script h, byte 0 (omega arith), byte 1 (omega arith), byte 2 (omega arith), add-zero (3 * place)) refl
+  where
+    byte : (i : ℕ) → i < 3 → byte_at (take 3 (drop (3 * place) script)) i ≡ byte_at script (3 * place + i)
+    byte i l = get_or-take 3 (drop (3 * place) script) i 0 l ∙ get_or-drop (3 * place) script i 0
 
 abbrev pub ahead : List ℕ → ℕ → List Step
 ahead script place = steps_of (drop (3 * place) script)
@@ -42,11 +55,3 @@ short (kind ∷ port ∷ value ∷ more) h = absurd (omega (arith, h))
 
 pub ahead_none : (script : List ℕ) (place : ℕ) → length script < 3 * place + 3 → ahead script place ≡ []
 ahead_none script place h = short (drop (3 * place) script) (rw (length-drop (3 * place) script) (omega arith))
-
--- the lines that are asked for ahead of a place: that of the step there, if it paints, and those after it
-pub lines_ahead :
-    (script : List ℕ) (place : ℕ) → 3 * place + 3 ≤ length script
-    → lines_in (ahead script place) ≡ number (eqb (byte_at script (3 * place)) 1) + lines_in (ahead script (place + 1))
-lines_ahead script place h =
-    ap lines_in (ahead_more script place h)
-    ∙ rw (paints_kind (byte_at script (3 * place)) (byte_at script (3 * place + 1)) (byte_at script (3 * place + 2)))

@@ -1,50 +1,35 @@
 -- Laws on a script's steps in order: what a loop over them keeps, one step more, and how it ends.
 use mathlib.Core.Path.{◌≡◌, refl, sym, ap, ◌∙◌}
-use mathlib.Core.Bool.{Bool, true, false, true≢false, cond}
+use mathlib.Core.Bool.{true}
 use mathlib.Core.List.{List, [], ◌∷◌, ◌++◌}
-use Prim.Native.Nat.{ℕ, ◌+◌, ◌*◌, ◌<◌, ◌≤◌}
+use Prim.Native.Nat.{ℕ, ◌+◌, ◌/◌, ◌<◌, ◌≤◌}
 use native.Mathlib.Nat.{zero-add}
 use native.Mathlib.Omega.{arith}
-use lib.Dec.{eqb}
-use lib.ListN.{length}
+use lib.ListN.{length, get_or}
 use borrow.Author.Tests.{ne_eqb}
 use Rattle.lists.specs.Number.{number}
-use Rattle.lists.proofs.Tests.{chosen}
 use Rattle.nick.specs.Sizes.{record_bytes}
 use Rattle.nick.specs.Scanline.{line_dots}
 use Rattle.nick.specs.Record.{line_record}
 use Rattle.nick.specs.Painting.{external_at}
-use Rattle.nick.specs.Refusals.{Formed, Accepted}
+use Rattle.nick.specs.Refusals.{Formed, Accepted, number_of}
 use Rattle.nick.specs.declared.State.{State}
 use Rattle.laws.proofs.LineDots.{length_line}
 use Rattle.laws.proofs.Frames.{length_record}
 use Rattle.script.specs.Steps.{Step, steps_of, is_paint, lines_in, step_refusal, begins, step_dots, step_record}
-use Rattle.script.specs.Runs.{Ended, finished, refused, stopped, done, stop_number, bench_after, dots_after, records_after}
-use Rattle.script.specs.Answers.{ended_by, step_at, HasRoom, Does, DoesAll}
+use Rattle.script.specs.Runs.{done, stop_number, bench_after, dots_after, records_after}
+use Rattle.script.specs.Answers.{HasRoom, Does, DoesAll}
 use Rattle.script.specs.declared.Bench.{Bench}
-use Rattle.script.specs.declared.Outcome.{Outcome}
-use Rattle.script.specs.declared.Outcome.TheVariants.{Done, Refused, Stopped}
-use Rattle.script.specs.declared.Stepped.{Stepped}
+use Rattle.script.specs.declared.Failure.TheVariants.{Stopped}
 use Rattle.script.proofs.StepLaws.{lines_after, refused_quiet, refused_keeps}
 use Rattle.script.proofs.InOrder.{length_row}
-use Rattle.script.proofs.Ahead.{ahead, ahead_more, ahead_none}
+use Rattle.std.specs.Simd.{first_chunks}
+use Rattle.script.specs.Answers.{step_in}
+use Rattle.script.proofs.Ahead.{step_chunk, ahead, ahead_more, ahead_none}
+use Rattle.painting.proofs.Numbers.{no_zero}
+use Rattle.std.specs.Prelude.{Ok, Err}
+use Rattle.nick.specs.declared.refusal.Refusal.{Refusal}
 use Rattle.script.proofs.Kept.{Kept, kept_none, kept_more, kept_all}
-
--- an answer is no refusal exactly if the step has none
-abbrev is_finished : Ended → Bool
-is_finished finished = true
-is_finished (refused n) = false
-is_finished (stopped n place) = false
-
-done_accepted : (n place : ℕ) (o : Outcome) → o ≡ Done → ended_by o ≡ cond (eqb n 0) finished (stopped n place) → n ≡ 0
-done_accepted n place o e answer =
-    (chosen n finished finished (stopped n place) (λ q. true≢false (ap is_finished q)) (sym (ap ended_by e) ∙ answer)).0
-
-not_done_refused :
-    (n place : ℕ) (o : Outcome) → (o ≡ Done → ⊥) → ended_by o ≡ cond (eqb n 0) finished (stopped n place) → n ≡ 0 → ⊥
-not_done_refused n place Done e answer z = e refl
-not_done_refused n place (Refused k) e answer z = true≢false (sym (ap is_finished (rw z at answer)))
-not_done_refused n place (Stopped k p) e answer z = true≢false (sym (ap is_finished (rw z at answer)))
 
 -- What a loop over the places of a script keeps: as the rules' bench stands after the steps before this place, the steps ahead lead
 -- to the same end as all of them from the beginning.
@@ -57,7 +42,7 @@ pub record Going (s : State) (ram script external dots₀ records₀ : List ℕ)
   pub lines : b.lines + lines_in (ahead script place) ≡ lines_in (steps_of script)
   pub formed : Formed b.state.scan
 
-module _ (s : State) (ram script external dots₀ records₀ : List ℕ) where
+module _ {s : State} {ram script external dots₀ records₀ : List ℕ} where
   pub going_first : Formed s.scan → Going s ram script external dots₀ records₀ 0 (begins s) dots₀ records₀
   going_first f = record {
     stop = refl;
@@ -72,10 +57,10 @@ module _ (s : State) (ram script external dots₀ records₀ : List ℕ) where
   module _ {place : ℕ} {b : Bench} {dots records : List ℕ} (g : Going s ram script external dots₀ records₀ place b dots records) where
     -- past the last step all are done
     pub going_all :
-        length script < 3 * place + 3
-        → DoesAll s ram script external dots₀ dots records₀ records (record { outcome = Done; bench = b })
-    going_all h =
-        let none = ahead_none script place h in
+        (count : ℕ) → count ≡ length script / 3 → count ≤ place
+        → DoesAll s ram script external dots₀ dots records₀ records b (Ok tt)
+    going_all count e h =
+        let none = ahead_none script place (omega arith) in
         let stop : stop_number (steps_of script) ≡ 0 = sym g.stop ∙ ap stop_number none in
         record {
           ended = rw stop;
@@ -85,12 +70,14 @@ module _ (s : State) (ram script external dots₀ records₀ : List ℕ) where
           most = omega (arith, g.lines);
         }
 
-    module _ (fits : Accepted s ram (lines_in (steps_of script)) dots₀ records₀) (whole : 3 * place + 3 ≤ length script) where
+    -- the step at this place of the steps, which are three bytes each
+    module _ {steps : List (List ℕ)} (fits : Accepted s ram (lines_in (steps_of script)) dots₀ records₀)
+        (front : steps ≡ first_chunks 3 (length script / 3) script) (count : length steps ≡ length script / 3) (some : place < length steps) where
       abbrev here : Step
-      here = step_at script place
+      here = step_in (get_or steps place [])
 
       more : ahead script place ≡ here ∷ ahead script (place + 1)
-      more = ahead_more script place whole
+      more = rw (front, step_chunk script place (length script / 3) (omega arith)) (ahead_more script place (omega arith))
 
       lines_here : lines_in (ahead script place) ≡ number (is_paint here) + lines_in (ahead script (place + 1))
       lines_here = ap lines_in more
@@ -105,36 +92,36 @@ module _ (s : State) (ram script external dots₀ records₀ : List ℕ) where
             bytes = omega (arith, fits.bytes, g.records.size, g.lines, lines_here, one);
           }
 
-      module _ {dots₁ records₁ : List ℕ} {r : Stepped}
-          (d : Does here place ram external b dots dots₁ records records₁ r)
+      module _ {dots₁ records₁ : List ℕ} {c : Bench}
+          (d : Does here ram external b dots dots₁ records records₁ c)
           (places : length dots₁ ≡ length dots) (bytes : length records₁ ≡ length records) where
-        lines_now : r.bench.lines ≡ b.lines + number (is_paint here)
-        lines_now = ap (λ (c : Bench). c.lines) d.bench ∙ lines_after ram here b
+        lines_now : c.lines ≡ b.lines + number (is_paint here)
+        lines_now = ap (λ (x : Bench). x.lines) d.bench ∙ lines_after ram here b
 
         -- both buffers after the step, `next` being what is painted after it
         dots_now :
             (next : List ℕ)
             → dots_after ram external (done (ahead script place)) b ≡ step_dots ram external here b ++ next
-            → Kept 736 dots₀ (dots_after ram external (done (steps_of script)) (begins s)) r.bench.lines dots₁ next
+            → Kept 736 dots₀ (dots_after ram external (done (steps_of script)) (begins s)) c.lines dots₁ next
         dots_now next e =
             let line = line_dots b.state.registers ram b.state.scan (external_at external b.lines) in
             let size = length_row (is_paint here) 736 line (length_line b.state.registers ram b.state.scan (external_at external b.lines)) in
-            kept_more (step_dots ram external here b) next (rw e at g.dots) r.bench.lines dots₁
+            kept_more (step_dots ram external here b) next (rw e at g.dots) c.lines dots₁
             (omega (arith, fits.places, g.dots.size, g.lines)) (omega (arith, size, lines_now)) places d.dots
 
         records_now :
             (next : List ℕ)
             → records_after ram (done (ahead script place)) b ≡ step_record ram here b ++ next
-            → Kept record_bytes records₀ (records_after ram (done (steps_of script)) (begins s)) r.bench.lines records₁ next
+            → Kept record_bytes records₀ (records_after ram (done (steps_of script)) (begins s)) c.lines records₁ next
         records_now next e =
             let size = length_row (is_paint here) record_bytes (line_record ram b.state) (length_record ram b.state) in
-            kept_more (step_record ram here b) next (rw e at g.records) r.bench.lines records₁
+            kept_more (step_record ram here b) next (rw e at g.records) c.lines records₁
             (omega (arith, fits.bytes, g.records.size, g.lines)) (omega (arith, size, lines_now)) bytes d.records
 
         -- one step more
-        pub going_more : r.outcome ≡ Done → Going s ram script external dots₀ records₀ (place + 1) r.bench dots₁ records₁
+        pub going_more : 0 ≡ step_refusal here → Going s ram script external dots₀ records₀ (place + 1) c dots₁ records₁
         going_more e =
-            let accepted = done_accepted (step_refusal here) place r.outcome e d.ended in
+            let accepted = sym e in
             let rest = done (ahead script (place + 1)) in
             let steps : done (ahead script place) ≡ here ∷ rest = rw (more, accepted) in
             let stop : stop_number (ahead script place) ≡ stop_number (ahead script (place + 1)) = rw (more, accepted) in
@@ -143,27 +130,27 @@ module _ (s : State) (ram script external dots₀ records₀ : List ℕ) where
               count = omega (arith, g.count, ap length steps);
               bench = ap (bench_after ram rest) d.bench ∙ sym (ap (λ (l : List Step). bench_after ram l b) steps) ∙ g.bench;
               dots =
-                  dots_now (dots_after ram external rest r.bench)
+                  dots_now (dots_after ram external rest c)
                   (ap (λ (l : List Step). dots_after ram external l b) steps
-                  ∙ ap (λ (c : Bench). step_dots ram external here b ++ dots_after ram external rest c) (sym d.bench));
+                  ∙ ap (λ (x : Bench). step_dots ram external here b ++ dots_after ram external rest x) (sym d.bench));
               records =
-                  records_now (records_after ram rest r.bench)
+                  records_now (records_after ram rest c)
                   (ap (λ (l : List Step). records_after ram l b) steps
-                  ∙ ap (λ (c : Bench). step_record ram here b ++ records_after ram rest c) (sym d.bench));
+                  ∙ ap (λ (x : Bench). step_record ram here b ++ records_after ram rest x) (sym d.bench));
               lines = omega (arith, g.lines, lines_here, lines_now);
               formed = d.formed;
             }
 
         -- a refused step ends the run
-        pub going_stop : (r.outcome ≡ Done → ⊥) → DoesAll s ram script external dots₀ dots₁ records₀ records₁ r
-        going_stop e =
-            let refused = not_done_refused (step_refusal here) place r.outcome e d.ended in
+        pub going_stop : (r : Refusal) → number_of r ≡ step_refusal here → DoesAll s ram script external dots₀ dots₁ records₀ records₁ c (Err (Stopped r place))
+        going_stop r e =
+            let refused : step_refusal here ≡ 0 → ⊥ = λ z. no_zero r (e ∙ z) in
             let quiet = refused_quiet here refused in
             let none : done (ahead script place) ≡ [] = rw (more, ne_eqb (step_refusal here) 0 refused) in
             let stop : step_refusal here ≡ stop_number (steps_of script) = sym (rw (more, ne_eqb (step_refusal here) 0 refused)) ∙ g.stop in
             let count : place ≡ length (done (steps_of script)) = omega (arith, g.count, ap length none) in
             record {
-              ended = d.ended ∙ rw (stop, count) refl;
+              ended = rw (e, ← stop, ne_eqb (step_refusal here) 0 refused, ← count) refl;
               bench = d.bench ∙ refused_keeps ram here b refused ∙ sym (ap (λ (l : List Step). bench_after ram l b) none) ∙ g.bench;
               dots = kept_all (dots_now [] (rw (none, quiet)));
               records = kept_all (records_now [] (rw (none, quiet)));

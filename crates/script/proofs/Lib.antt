@@ -1,3 +1,4 @@
+pub mod Chunks
 pub mod StepLaws
 pub mod Ahead
 pub mod InOrder

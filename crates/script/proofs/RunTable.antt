@@ -1,23 +1,27 @@
 -- When a run is refused before its first step, and what it leaves by that.
 use mathlib.Core.Path.{◌≡◌, refl, sym, ap, ◌∙◌}
 use mathlib.Core.Bool.{Bool, true, false, cond}
-use mathlib.Core.List.{List, ◌++◌}
+use mathlib.Core.List.{List, [], ◌++◌, append-nil}
 use Prim.Native.Nat.{ℕ, ◌-◌, ◌*◌, ◌≤◌}
 use native.Mathlib.Omega.{arith}
 use lib.Dec.{eqb, ltb}
-use lib.ListN.{length, take, drop, replicate, length-append, length-take, length-drop}
+use lib.ListN.{length, take, drop, replicate, length-append, length-take, length-drop, drop_of_length-le}
+use borrow.Rule.Slice.PartMut.{put_mid}
 use borrow.Author.Tests.{eqb-true, ltb-false, ne_eqb}
-use Rattle.lists.proofs.Laws.{lent_end}
+use lib.Seq.{take_at}
 use Rattle.nick.specs.Sizes.{record_bytes}
-use Rattle.nick.specs.Refusals.{lines_refusal, Accepted}
+use Rattle.std.specs.Prelude.{Result, Err}
+use Rattle.nick.specs.Refusals.{lines_refusal, Accepted, number_of}
+use Rattle.nick.specs.declared.refusal.Refusal.{Refusal}
 use Rattle.nick.specs.declared.State.{State}
 use Rattle.nick.proofs.Refusals.{accepted_lines}
 use Rattle.script.specs.Steps.{steps_of, lines_in, begins}
 use Rattle.script.specs.Runs.{done, records_after, requests, half_step, run_refusal, refused_run, ran, run}
-use Rattle.script.specs.Answers.{DoesAll, Runs}
+use Rattle.script.specs.Answers.{DoesAll, Steps}
 use Rattle.script.specs.declared.Bench.{Bench}
-use Rattle.script.specs.declared.Outcome.TheVariants.{Refused}
-use Rattle.script.specs.declared.Stepped.{Stepped}
+use Rattle.script.specs.declared.Failure.{Failure}
+use Rattle.script.specs.declared.Failure.TheVariants.{Refused}
+use Rattle.painting.proofs.Numbers.{no_zero}
 
 module _ (s : State) (ram script dots records external : List ℕ) where
   -- the lines that the script asks for, and the number that the table of paintings gives for them
@@ -29,20 +33,6 @@ module _ (s : State) (ram script dots records external : List ℕ) where
 
   abbrev pub given : ℕ
   given = run_refusal s ram script dots records external
-
-  module _ (n : ℕ) (e : n ≡ from_table) where
-    pub refused_table : (n ≡ 0 → ⊥) → n ≡ given
-    unfolding run_refusal
-    refused_table r = rw (← e, ne_eqb n 0 r)
-
-    module _ (none : n ≡ 0) where
-      pub refused_half : half_step script ≡ true → 19 ≡ given
-      unfolding run_refusal
-      refused_half h = rw (← e, none, h)
-
-      pub not_refused : half_step script ≡ false → 0 ≡ given
-      unfolding run_refusal
-      not_refused h = rw (← e, none, h)
 
   -- of a script of whole steps the table alone decides
   pub whole_refusal : half_step script ≡ false → given ≡ from_table
@@ -74,66 +64,61 @@ module _ (s : State) (ram script dots records external : List ℕ) where
   unfolding run
   refused_run_is r = rw (ne_eqb given 0 r)
 
-module _ (s : State) (ram script dots records external : List ℕ) (n : ℕ) (e : n ≡ given s ram script dots records external) where
-  -- a run refused before its first step keeps the state and the dots, and stamps the records
-  pub runs_refused :
-      (stamped : List ℕ) (b : Bench) → (n ≡ 0 → ⊥) → stamped ≡ replicate (length records) 255 → b ≡ begins s
-      → Runs s ram script dots records external dots stamped (record { outcome = Refused n; bench = b; request = false })
+module _ {s : State} {ram script dots records external : List ℕ} where
+  -- a run refused before its first step keeps the state and the dots, and paints no record
+  pub steps_refused :
+      {r : Refusal} → number_of r ≡ given s ram script dots records external
+      → Steps s ram script dots records external dots records (begins s) (Err (Refused r))
   unfolding refused_run
-  runs_refused stamped b r stamps begun =
-      let is = refused_run_is s ram script dots records external (λ z. r (e ∙ z)) in
-      record { ended = rw (is, e); bench = rw is begun; request = rw is; dots = rw is; records = rw is stamps }
+  steps_refused {r} e =
+      let is = refused_run_is s ram script dots records external (λ z. no_zero r (e ∙ z)) in
+      record { ended = rw (is, e); bench = rw is; request = rw is; dots = rw is; records = rw is (ap (λ (k : ℕ). replicate k 255) (omega arith)); inside = omega arith }
 
-  module _ (none : n ≡ 0) {dots₁ records₁ : List ℕ} {r : Stepped} (d : DoesAll s ram script external dots dots₁ records records₁ r) where
+  module _ {whole dots₁ records₁ : List ℕ} {b : Bench} {r : Result (Unit {0}) Failure} (done-all : DoesAll s whole script external dots dots₁ records records₁ b r)
+      (full : whole ≡ ram) (none : 0 ≡ given s ram script dots records external) (same : length records₁ ≡ length records) where
+    d : DoesAll s ram script external dots dots₁ records records₁ b r
+    d = rw (← full) done-all
+
     fits : Accepted s ram (asked s ram script dots records external) dots records
-    fits = run_accepted s ram script dots records external (sym e ∙ none)
+    fits = run_accepted s ram script dots records external (sym none)
+
+    abbrev from : ℕ
+    from = record_bytes * b.lines
+
+    abbrev painted : List ℕ
+    painted = records_after ram (done (steps_of script)) (begins s)
 
     -- the painted records lie inside the buffer
-    pub records_inside : record_bytes * r.bench.lines ≤ length records
+    records_inside : from ≤ length records
     records_inside = omega (arith, fits.bytes, d.most)
 
-    -- the records of the lines that are not painted are stamped
-    module _ (rest : List ℕ) (same : length records₁ ≡ length records)
-        (filled : rest ≡ replicate (length (take (length records₁ - record_bytes * r.bench.lines) (drop (record_bytes * r.bench.lines) records₁))) 255) where
-      abbrev from : ℕ
-      from = record_bytes * r.bench.lines
+    painted_length : length painted ≡ from
+    painted_length =
+        let both = ap length d.records ∙ length-append painted (drop from records) in
+        omega (arith, both, length-drop from records, same, records_inside)
 
-      abbrev painted : List ℕ
-      painted = records_after ram (done (steps_of script)) (begins s)
+    painted_front : take from records₁ ≡ painted
+    painted_front = ap (take from) d.records ∙ take_at painted (drop from records) from painted_length
 
-      rest_stamped : rest ≡ replicate (length records - from) 255
-      rest_stamped =
-          let size : length (take (length records₁ - from) (drop from records₁)) ≡ length records - from =
-          length-take (length records₁ - from) (drop from records₁) ∙ rw (length-drop from records₁, same) (omega arith) in
-          filled ∙ ap (λ (k : ℕ). replicate k 255) size
+    -- else the steps are done
+    pub steps_done : Steps s ram script dots records external dots₁ records₁ b r
+    unfolding ran
+    steps_done =
+        let is = ran_is s ram script dots records external (sym none) in
+        record {
+          ended = rw is d.ended;
+          bench = rw is d.bench;
+          request = rw is (ap requests d.bench);
+          dots = rw (is, ← d.bench) d.dots;
+          records = rw (is, ← d.bench, painted_front, same) refl;
+          inside = rw same records_inside;
+        }
 
-      painted_length : length painted ≡ from
-      painted_length =
-          let both = ap length d.records ∙ length-append painted (drop from records) in
-          omega (arith, both, length-drop from records, same, records_inside)
-
-      stamped_rest :
-          take from records₁ ++ (rest ++ drop (length records₁ - from) (drop from records₁))
-          ≡ painted ++ replicate (length records - from) 255
-      stamped_rest =
-          ap (λ (l : List ℕ). take from l ++ (rest ++ drop (length records₁ - from) (drop from l))) d.records
-          ∙ lent_end painted (drop from records) rest from (length records₁ - from) painted_length
-          (rw (length-drop from records, same) (omega arith))
-          ∙ ap (λ (l : List ℕ). painted ++ l) rest_stamped
-
-      -- else the steps are done
-      pub runs_done :
-          (request : Bool) → request ≡ requests r.bench
-          → Runs s ram script dots records external dots₁
-          (take from records₁ ++ (rest ++ drop (length records₁ - from) (drop from records₁)))
-          (record { outcome = r.outcome; bench = r.bench; request = request })
-      unfolding ran
-      runs_done request asks =
-          let is = ran_is s ram script dots records external (sym e ∙ none) in
-          record {
-            ended = rw is d.ended;
-            bench = rw is d.bench;
-            request = rw is (asks ∙ ap requests d.bench);
-            dots = rw (is, ← d.bench) d.dots;
-            records = rw (is, ← d.bench) stamped_rest;
-          }
+-- the records of the lines that are not painted are stamped
+pub stamped_rest : (n k : ℕ) (records rest : List ℕ) → n ≤ length records → k ≡ length records - n
+    → rest ≡ replicate (length (take k (drop n records))) 255
+    → put_mid n k records rest ≡ take n records ++ replicate (length records - n) 255
+stamped_rest n k records rest inside e filled =
+    let size : length (take k (drop n records)) ≡ length records - n = length-take k (drop n records) ∙ rw (length-drop n records) (omega arith) in
+    let none : drop k (drop n records) ≡ [] = drop_of_length-le (drop n records) (rw (length-drop n records) (omega arith)) in
+    rw (filled, size, none) (ap (λ (l : List ℕ). take n records ++ l) (append-nil (replicate (length records - n) 255)))

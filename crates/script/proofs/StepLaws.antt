@@ -1,8 +1,8 @@
 -- Laws on single steps: which kind a step is of, what a step that paints nothing keeps, and when the state stays well-formed.
-use mathlib.Core.Path.{◌≡◌, refl, sym, ◌∙◌}
-use mathlib.Core.Bool.{Bool, true, false, true≢false, cond, ◌||◌}
+use mathlib.Core.Path.{◌≡◌, refl, sym, ap, ◌∙◌}
+use mathlib.Core.Bool.{Bool, true, false, true≢false, cond}
 use mathlib.Core.List.{List, ◌++◌}
-use Prim.Native.Nat.{ℕ, ◌+◌, ◌*◌, ◌/◌, ◌%◌, ◌^◌, ◌<◌, ◌≤◌}
+use Prim.Native.Nat.{ℕ, ◌+◌, ◌*◌, ◌≤◌}
 use native.Mathlib.Nat.{add-zero}
 use native.Mathlib.Omega.{arith}
 use lib.Dec.{eqb}
@@ -16,12 +16,9 @@ use Rattle.nick.specs.Registers.{write_refusal, written_registers, written_scan,
 use Rattle.nick.specs.Record.{line_record}
 use Rattle.nick.specs.Refusals.{Formed}
 use Rattle.nick.specs.declared.State.{State}
-use Rattle.painting.specs.PaintedFrame.{NextLine}
 use Rattle.script.specs.Steps.{Step, writes, paints, enables, resets, unknown, step_of, is_paint, step_refusal, after}
-use Rattle.script.specs.Answers.{done_with, Quiet, HasRoom, Does}
+use Rattle.script.specs.Answers.{Does}
 use Rattle.script.specs.declared.Bench.{Bench}
-use Rattle.script.specs.declared.Outcome.TheVariants.{Stopped}
-use Rattle.script.specs.declared.Stepped.{Stepped}
 
 -- a step paints exactly if its kind is 1
 pub paints_kind : (kind port value : ℕ) → is_paint (step_of kind port value) ≡ eqb kind 1
@@ -43,16 +40,6 @@ paints_kind kind port value = go (eqb kind 0) refl
     go true e = sym (ne_eqb kind 1 (λ q. absurd (omega (arith, eqb-true kind 0 e, q))))
     go false e = later (eqb kind 1) (eqb kind 2) (eqb kind 3)
 
--- "a kind over 3"
-pub unknown_kind : (kind port value : ℕ) → 3 < kind → step_of kind port value ≡ unknown
-unknown_kind kind port value h =
-    rw (
-      ne_eqb kind 0 (λ q. absurd (omega (arith, h, q))),
-      ne_eqb kind 1 (λ q. absurd (omega (arith, h, q))),
-      ne_eqb kind 2 (λ q. absurd (omega (arith, h, q))),
-      ne_eqb kind 3 (λ q. absurd (omega (arith, h, q))),
-    )
-
 -- a step adds the line that it paints, and no other
 pub lines_after : (ram : List ℕ) (step : Step) (b : Bench) → (after ram step b).lines ≡ b.lines + number (is_paint step)
 unfolding after
@@ -73,7 +60,7 @@ written_formed s port value f = go (eqb (write_refusal port) 0)
     go true = record { left = f.left; number = f.number }
     go false = f
 
-pub quiet_formed :
+quiet_formed :
     (ram : List ℕ) (step : Step) (b : Bench) → is_paint step ≡ false → Formed b.state.scan
     → Formed (after ram step b).state.scan
 unfolding after
@@ -84,55 +71,30 @@ quiet_formed ram resets b e f = f
 quiet_formed ram unknown b e f = f
 
 -- a step that paints nothing leaves the buffers
-pub quiet_does :
-    (step : Step) (place : ℕ) (ram external : List ℕ) (b : Bench) (dots records : List ℕ) (r : Stepped)
+quiet_does :
+    (step : Step) (ram external : List ℕ) (b : Bench) (dots records : List ℕ)
     → is_paint step ≡ false
     → Formed b.state.scan
-    → Quiet step place b r
-    → Does step place ram external b dots dots records records r
-quiet_does step place ram external b dots records r e f q =
-    let same : r.bench.lines ≡ b.lines = rw (q.bench ram, lines_after ram step b, e) (add-zero b.lines) in
+    → Does step ram external b dots dots records records (after ram step b)
+quiet_does step ram external b dots records e f =
+    let same : (after ram step b).lines ≡ b.lines = rw (lines_after ram step b, e) (add-zero b.lines) in
     record {
-      ended = q.ended;
-      bench = q.bench ram;
+      bench = refl;
       dots = rw (e, same) (sym (take-append-drop (736 * b.lines) dots));
       records = rw (e, same) (sym (take-append-drop (record_bytes * b.lines) records));
-      formed = rw (q.bench ram) (quiet_formed ram step b e f);
+      formed = quiet_formed ram step b e f;
     }
 
--- a register write by its refusal
-module _ (b : Bench) (port value place : ℕ) where
-  pub write_refused :
-      (n : ℕ) → n ≡ write_refusal port → (n ≡ 0 → ⊥)
-      → Quiet (writes port value) place b (record { outcome = Stopped n place; bench = b })
-  unfolding after written
-  write_refused n e refused = record {
-    ended = rw (← e, ne_eqb n 0 refused);
-    bench = λ ram. rw (← e, ne_eqb n 0 refused);
-  }
-
-  pub write_done :
-      write_refusal port ≡ 0
-      → Quiet (writes port value) place b (done_with (written b.state port value) b.latch b.enable b.lines)
-  unfolding after
-  write_done e = record { ended = rw e; bench = λ ram. refl }
-
--- the other steps that paint nothing
-module _ (b : Bench) (place : ℕ) where
-  pub enable_done :
-      (value : ℕ) → Quiet (enables (is_set 0 value)) place b (done_with b.state b.latch (eqb (value % 2) 1) b.lines)
-  unfolding after
-  enable_done value =
-      let whole : value / 2 ^ 0 ≡ value = omega arith in
-      rw whole (record { ended = refl; bench = λ ram. refl })
-
-  pub reset_done : Quiet resets place b (done_with b.state false b.enable b.lines)
-  unfolding after
-  reset_done = record { ended = refl; bench = λ ram. refl }
-
-  pub unknown_refused : Quiet unknown place b (record { outcome = Stopped 19 place; bench = b })
-  unfolding after
-  unknown_refused = record { ended = refl; bench = λ ram. refl }
+-- as one that writes a register
+pub write_does :
+    {step : Step} {ram external dots records : List ℕ} {b : Bench} {port value : ℕ} {s : State}
+    → Formed b.state.scan
+    → writes port value ≡ step
+    → s ≡ written b.state port value
+    → Does step ram external b dots dots records records (record { state = s; latch = b.latch; enable = b.enable; lines = b.lines })
+unfolding after
+write_does {ram = ram} {external} {dots} {records} {b} {port} {value} f e w =
+    rw (← e, w) (quiet_does (writes port value) ram external b dots records refl f)
 
 -- the first byte of the record that a line put in its place has
 record_first :
@@ -142,28 +104,6 @@ unfolding line_record
 record_first ram s records rest n h =
     let front : length (take n records) ≡ n = length-take n records ∙ omega arith in
     get_or_at (take n records) _ _ 0 n front
-
--- a line painted into its place is what the painting step does
-pub paint_does :
-    (place : ℕ) (ram external : List ℕ) (b : Bench) (dots₀ dots₁ records₀ records₁ : List ℕ) (t : State)
-    → HasRoom b.lines dots₀ records₀
-    → NextLine b.state ram b.lines external dots₀ dots₁ records₀ records₁ t
-    → Does paints place ram external b dots₀ dots₁ records₀ records₁
-    (done_with t (b.latch || is_set 1 (byte_at records₁ (record_bytes * b.lines))) b.enable (b.lines + 1))
-unfolding after
-paint_does place ram external b dots₀ dots₁ records₀ records₁ t room e =
-    let y = b.lines in
-    let dots-next : 736 * y + 736 ≡ 736 * (y + 1) = omega arith in
-    let record-next : record_bytes * y + record_bytes ≡ record_bytes * (y + 1) = omega arith in
-    let rest = drop record_bytes (drop (record_bytes * y) records₀) in
-    let first = record_first ram b.state records₀ rest (record_bytes * y) (omega (arith, room.bytes)) in
-    record {
-      ended = refl;
-      bench = rw (e.state, e.records, first);
-      dots = e.dots ∙ rw (drop-drop 736 (736 * y) dots₀, dots-next);
-      records = e.records ∙ rw (drop-drop record_bytes (record_bytes * y) records₀, record-next);
-      formed = e.formed;
-    }
 
 -- a refused step paints nothing and changes nothing
 pub refused_quiet : (step : Step) → (step_refusal step ≡ 0 → ⊥) → is_paint step ≡ false
@@ -180,3 +120,18 @@ refused_keeps ram paints b r = absurd (r refl)
 refused_keeps ram (enables on) b r = absurd (r refl)
 refused_keeps ram resets b r = absurd (r refl)
 refused_keeps ram unknown b r = refl
+
+-- the flags of the record that line y has put in its place
+pub flags_there :
+    (ram : List ℕ) (s : State) (y : ℕ) (records₀ records₁ rest : List ℕ)
+    → records₁ ≡ take (record_bytes * y) records₀ ++ (line_record ram s ++ rest)
+    → record_bytes * y ≤ length records₀
+    → byte_at records₁ (record_bytes * y) ≡ byte_at (line_record ram s) 0
+flags_there ram s y records₀ records₁ rest e h = rw e (record_first ram s records₀ rest (record_bytes * y) h)
+
+-- what lies past line y
+pub past_dots : (y : ℕ) (dots : List ℕ) → drop 736 (drop (736 * y) dots) ≡ drop (736 * (y + 1)) dots
+past_dots y dots = drop-drop 736 (736 * y) dots ∙ ap (λ (k : ℕ). drop k dots) (omega arith)
+
+pub past_record : (y : ℕ) (records : List ℕ) → drop record_bytes (drop (record_bytes * y) records) ≡ drop (record_bytes * (y + 1)) records
+past_record y records = drop-drop record_bytes (record_bytes * y) records ∙ ap (λ (k : ℕ). drop k records) (omega arith)

@@ -6,16 +6,18 @@ mod steps;
 mod table;
 
 ghost use Rattle.std.specs.Prelude.{◌≡◌};
+ghost use Rattle.script.specs.Steps.{begins};
 ghost use Rattle.script.specs.Runs.{requests};
-ghost use Rattle.script.specs.Answers.{Runs};
+ghost use Rattle.script.specs.Answers.{Steps, Runs};
 
-use nick::{RECORD_BYTES, State};
+use nick::{RECORD_BYTES, Refusal, State};
+use refusals::stamp;
 use steps::{begun, do_steps};
 pub use table::lines_in;
 use table::refusal_of;
 
 // The bench as it stands: the chip's state, the interrupt latch and enable, and how many scanlines are painted.
-#[derive(Clone, Copy)]
+#[derive(Clone, Copy, PartialEq, Eq)]
 pub struct Bench {
     pub state: State,
     pub latch: bool,
@@ -23,25 +25,17 @@ pub struct Bench {
     pub lines: usize,
 }
 
-// How a run ended: all steps done; refused before the first step; or stopped at a step, which has a place, from 0.
-#[derive(Clone, Copy)]
-pub enum Outcome {
-    Done,
-    Refused(u8),
-    Stopped(u8, usize),
-}
-
-// What steps leave: whether the last was refused, and the bench.
-#[derive(Clone, Copy)]
-pub struct Stepped {
-    pub outcome: Outcome,
-    pub bench: Bench,
+// Why a run does not do all its steps: it is refused before the first, or stopped at one, which has a place, from 0.
+#[derive(Clone, Copy, PartialEq, Eq)]
+pub enum Failure {
+    Refused(Refusal),
+    Stopped(Refusal, usize),
 }
 
 // What a run answers.
-#[derive(Clone, Copy)]
+#[derive(Clone, Copy, PartialEq, Eq)]
 pub struct Ran {
-    pub outcome: Outcome,
+    pub outcome: Result<(), Failure>,
     pub bench: Bench,
     pub request: bool,
 }
@@ -53,7 +47,27 @@ fn is_requested(bench: Bench) -> bool
     bench.latch && bench.enable
 }
 
+// Does the steps of a script up to the first refused one, or none where the run is refused before.
+#[tactic(auto, using(crate::proofs::RunTable::run_accepted, crate::proofs::RunTable::steps_refused))]
+fn run_steps(
+    bench: &mut Bench,
+    ram: &[u8],
+    script: &[u8],
+    dots: &mut [u8],
+    records: &mut [u8],
+    external: &[u8],
+) -> Result<(), Failure>
+    requires { bench.old ≡ begins bench.old.state }
+    ensures { Steps bench.old.state ram.now script.now dots.old records.old external.now dots.new records.new bench.new result }
+{
+    let ram = refusal_of(bench.state, ram, script, dots, records, external).map_err(
+        Failure::Refused,
+    )?;
+    do_steps(bench, script, ram, dots, records, external)
+}
+
 // Runs a script up to the first refused step. Lines that are not painted keep their dots, and their records are stamped.
+#[tactic(auto, using(crate::proofs::RunTable::stamped_rest))]
 pub fn run(
     state: State,
     ram: &[u8],
@@ -64,21 +78,10 @@ pub fn run(
 ) -> Ran
     ensures { Runs state ram.now script.now dots.old records.old external.now dots.new records.new result }
 {
-    let refusal = refusal_of(state, ram, script, dots, records, external);
-    if refusal != 0 {
-        lists::fill(records, 255);
-        return Ran {
-            outcome: Outcome::Refused(refusal),
-            bench: begun(state),
-            request: false,
-        };
-    }
-    let stepped = do_steps(state, script, ram, dots, records, external);
-    let bench = stepped.bench;
+    let mut bench = begun(state);
+    let outcome = run_steps(&mut bench, ram, script, dots, records, external);
     let painted = RECORD_BYTES * bench.lines;
-    let end = records.len();
-    lists::fill(&mut records[painted..end], 255);
-    let outcome = stepped.outcome;
+    stamp(&mut records[painted..]);
     Ran {
         outcome,
         bench,

@@ -1,13 +1,22 @@
 // Steps: one, and those of a script in order up to the first that is refused.
-ghost use Rattle.std.specs.Prelude.{◌≡◌, true, ◌||◌, ◌+◌, ◌*◌, ◌≤◌, length};
+ghost use Rattle.std.specs.Prelude.{◌≡◌, true, ◌||◌, ◌≤◌};
 ghost use Rattle.nick.specs.Numbers.{is_set};
-ghost use Rattle.nick.specs.Refusals.{Formed, Accepted};
-ghost use Rattle.script.specs.Steps.{paints, step_of, steps_of, lines_in, is_paint, writes, begins};
-ghost use Rattle.script.specs.Answers.{done_with, step_at, Quiet, HasRoom, Does, DoesAll};
+ghost use Rattle.nick.specs.Refusals.{Formed, Accepted, refusal_in};
+ghost use Rattle.script.specs.Steps.{paints, steps_of, lines_in, is_paint, step_refusal, begins};
+ghost use Rattle.script.specs.Answers.{step_in, step_read, HasRoom, Does, DoesAll};
 
-use crate::{Bench, Outcome, Stepped};
-use nick::{RECORD_BYTES, State};
+use crate::{Bench, Failure};
+use nick::{RECORD_BYTES, Ram, Refusal, State};
 use painting::next_line;
+
+// A step of a script.
+#[derive(Clone, Copy, PartialEq, Eq)]
+pub enum Step {
+    Write { port: u8, value: u8 },
+    Paint,
+    Enable(bool),
+    Reset,
+}
 
 // The bench before the first step.
 pub fn begun(state: State) -> Bench
@@ -21,49 +30,17 @@ pub fn begun(state: State) -> Bench
     }
 }
 
-// A step that is done.
-fn done(state: State, latch: bool, enable: bool, lines: usize) -> Stepped
-    ensures { result ≡ done_with state latch enable lines }
+// The step that kind, port and data make; there is none of a kind over 3.
+fn step_of(bytes: &[u8; 3]) -> Option<Step>
+    ensures { step_read result ≡ step_in bytes.now }
 {
-    let bench = Bench {
-        state,
-        latch,
-        enable,
-        lines,
-    };
-    Stepped {
-        outcome: Outcome::Done,
-        bench,
-    }
-}
-
-// Kind 0: writes a port.
-fn write_port(bench: Bench, port: u8, value: u8, place: usize) -> Stepped
-    ensures { Quiet (writes port value) place bench result }
-{
-    let written = nick::write(bench.state, port as u32, value);
-    if written.refusal != 0 {
-        return Stepped {
-            outcome: Outcome::Stopped(written.refusal, place),
-            bench,
-        };
-    }
-    done(written.state, bench.latch, bench.enable, bench.lines)
-}
-
-// Any kind but 1.
-fn quiet_step(bench: Bench, kind: u8, port: u8, value: u8, place: usize) -> Stepped
-    requires { kind ≡ 1 → ⊥ }
-    ensures { Quiet (step_of kind port value) place bench result }
-{
+    let [kind, port, value] = *bytes;
     match kind {
-        0 => write_port(bench, port, value, place),
-        2 => done(bench.state, bench.latch, value % 2 == 1, bench.lines),
-        3 => done(bench.state, false, bench.enable, bench.lines),
-        _ => Stepped {
-            outcome: Outcome::Stopped(19, place),
-            bench,
-        },
+        0 => Some(Step::Write { port, value }),
+        1 => Some(Step::Paint),
+        2 => Some(Step::Enable(value % 2 == 1)),
+        3 => Some(Step::Reset),
+        _ => None,
     }
 }
 
@@ -75,71 +52,62 @@ fn latched(latch: bool, flags: u8) -> bool
 }
 
 // Kind 1: paints the next line.
-fn paint_line(
-    bench: Bench,
-    place: usize,
-    ram: &[u8],
-    dots: &mut [u8],
-    records: &mut [u8],
-    external: &[u8],
-) -> Stepped
-    requires { (length ram.now ≡ 65536) × Formed bench.state.scan × HasRoom bench.lines dots.old records.old }
-    ensures { Does paints place ram.now external.now bench dots.old dots.new records.old records.new result }
+#[tactic(auto, using(crate::proofs::StepLaws::flags_there, crate::proofs::StepLaws::past_dots, crate::proofs::StepLaws::past_record), unfolding(crate::specs::Steps::after))]
+fn paint_line(bench: &mut Bench, ram: &Ram, dots: &mut [u8], records: &mut [u8], external: &[u8])
+    requires formed { Formed bench.old.state.scan }
+    requires room { HasRoom bench.old.lines dots.old records.old }
+    ensures { Does paints ram.now external.now bench.old dots.old dots.new records.old records.new bench.new }
 {
     let y = bench.lines;
-    let state = next_line(bench.state, ram, y, dots, records, external);
-    let latch = latched(bench.latch, records[RECORD_BYTES * y]);
-    done(state, latch, bench.enable, y + 1)
+    bench.state = next_line(bench.state, ram, y, dots, records, external);
+    bench.latch = latched(bench.latch, records[RECORD_BYTES * y]);
+    bench.lines = y + 1;
 }
 
-// The step at a place.
+// Does one step; a refused one changes nothing.
+#[tactic(auto, unfolding(crate::specs::Steps::after))]
 fn do_step(
-    bench: Bench,
-    script: &[u8],
-    place: usize,
-    ram: &[u8],
+    bench: &mut Bench,
+    bytes: &[u8; 3],
+    ram: &Ram,
     dots: &mut [u8],
     records: &mut [u8],
     external: &[u8],
-) -> Stepped
-    requires place_in_bounds { (3 * place + 3 ≤ length script.now) × (length ram.now ≡ 65536) × Formed bench.state.scan }
-    requires has_room { is_paint (step_at script.now place) ≡ true → HasRoom bench.lines dots.old records.old }
-    ensures { Does (step_at script.now place) place ram.now external.now bench dots.old dots.new records.old records.new result }
+) -> Result<(), Refusal>
+    requires formed { Formed bench.old.state.scan }
+    requires room { is_paint (step_in bytes.now) ≡ true → HasRoom bench.old.lines dots.old records.old }
+    ensures refusal { refusal_in result ≡ step_refusal (step_in bytes.now) }
+    ensures does { Does (step_in bytes.now) ram.now external.now bench.old dots.old dots.new records.old records.new bench.new }
 {
-    let at = 3 * place;
-    let kind = script[at];
-    if kind == 1 {
-        return paint_line(bench, place, ram, dots, records, external);
+    match step_of(bytes) {
+        Some(Step::Write { port, value }) => nick::write(&mut bench.state, u32::from(port), value)?,
+        Some(Step::Paint) => paint_line(bench, ram, dots, records, external),
+        Some(Step::Enable(on)) => bench.enable = on,
+        Some(Step::Reset) => bench.latch = false,
+        None => return Err(Refusal::Script),
     }
-    quiet_step(bench, kind, script[at + 1], script[at + 2], place)
+    Ok(())
 }
 
 // A script's steps in order, up to the first that is refused.
 pub fn do_steps(
-    state: State,
+    bench: &mut Bench,
     script: &[u8],
-    ram: &[u8],
+    ram: &Ram,
     dots: &mut [u8],
     records: &mut [u8],
     external: &[u8],
-) -> Stepped
-    requires { Accepted state ram.now (lines_in (steps_of script.now)) dots.old records.old }
-    ensures { DoesAll state ram.now script.now external.now dots.old dots.new records.old records.new result }
+) -> Result<(), Failure>
+    requires begun { bench.old ≡ begins bench.old.state }
+    requires accepted { Accepted bench.old.state ram.now (lines_in (steps_of script.now)) dots.old records.old }
+    ensures { DoesAll bench.old.state ram.now script.now external.now dots.old dots.new records.old records.new bench.new result }
 {
-    let steps = script.len() / 3;
-    let mut bench = begun(state);
-    let mut place = 0;
-    while place < steps {
-        let stepped = do_step(bench, script, place, ram, dots, records, external);
-        let outcome = stepped.outcome;
-        let Outcome::Done = outcome else {
-            return stepped;
+    let (steps, _) = script.as_chunks();
+    for (place, bytes) in steps.iter().enumerate() {
+        let done = do_step(bench, bytes, ram, dots, records, external);
+        let Ok(()) = done else {
+            return Err(Failure::Stopped(done.unwrap_err(), place));
         };
-        bench = stepped.bench;
-        place += 1;
     }
-    Stepped {
-        outcome: Outcome::Done,
-        bench,
-    }
+    Ok(())
 }

@@ -1,51 +1,38 @@
 // When a run is refused before its first step.
-ghost use Rattle.std.specs.Prelude.{◌≡◌, ◌≤◌, eqb};
-ghost use Rattle.lists.specs.Number.{number};
+ghost use Rattle.std.specs.Prelude.{◌≡◌, IfOk};
+ghost use Rattle.nick.specs.Refusals.{refusal_in};
 ghost use Rattle.script.specs.Steps.{steps_of, lines_in};
 ghost use Rattle.script.specs.Runs.{run_refusal};
 
-use nick::State;
+use nick::{Ram, Refusal, State};
 use painting::lines_refusal;
 
-// 1 for a step that paints a scanline, else 0.
-fn lines_of(kind: u8) -> usize
-    ensures { (result ≡ number (eqb kind 1)) × (result ≤ 1) }
-{
-    if kind == 1 { 1 } else { 0 }
-}
-
 // How many scanlines a script asks for, the steps after a refused one included.
+#[tactic(auto, using(crate::proofs::Chunks::lines_counted))]
 pub fn lines_in(script: &[u8]) -> usize
     ensures { result ≡ lines_in (steps_of script.now) }
 {
-    let steps = script.len() / 3;
-    let mut lines = 0;
-    let mut i = 0;
-    while i < steps {
-        lines += lines_of(script[3 * i]);
-        i += 1;
-    }
-    lines
+    let (steps, _) = script.as_chunks::<3>();
+    steps.iter().filter(|step| step[0] == 1).count()
 }
 
-// The refusal before the first step, 0 for none: those of a painting of as many lines, but that none are no fault; then 19.
-pub fn refusal_of(
+// The refusal before the first step: those of a painting of as many lines, but that none are no fault; then 19. Else the whole RAM.
+#[tactic(auto, using(painting::proofs::Numbers::some_number), unfolding(crate::specs::Runs::run_refusal))]
+pub fn refusal_of<'a>(
     state: State,
-    ram: &[u8],
+    ram: &'a [u8],
     script: &[u8],
     dots: &[u8],
     records: &[u8],
     external: &[u8],
-) -> u8
-    ensures { result ≡ run_refusal state ram.now script.now dots.now records.now external.now }
+) -> Result<&'a Ram, Refusal>
+    ensures refusal { refusal_in result ≡ run_refusal state ram.now script.now dots.now records.now external.now }
+    ensures same { IfOk result (λ whole. whole.now ≡ ram.now) }
 {
     let lines = lines_in(script);
-    let refusal = lines_refusal(1024 < lines, state, ram, lines, dots, records, external);
-    if refusal != 0 {
-        return refusal;
-    }
+    let ram = lines_refusal(1024 < lines, state, ram, lines, dots, records, external)?;
     if script.len() % 3 != 0 {
-        return 19;
+        return Err(Refusal::Script);
     }
-    0
+    Ok(ram)
 }

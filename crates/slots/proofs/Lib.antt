@@ -1,3 +1,3 @@
 pub mod Runs
-pub mod CellRuns
-pub mod CellDots
+pub mod Cells
+pub mod SlotDots

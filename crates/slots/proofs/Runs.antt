@@ -1,49 +1,61 @@
--- Pixels in runs of dots, as a loop shows them one after another.
-use mathlib.Core.Path.{◌≡◌, refl, sym, ap, ◌∙◌}
-use mathlib.Core.List.{List, ◌++◌}
-use Prim.Native.Nat.{ℕ, ◌+◌, ◌*◌, ◌/◌, ◌<◌, ◌≤◌}
-use native.Mathlib.Nat.{add-zero, zero-mul, suc-mul, mul-le-mul_right, mul-add-div_right, div-eq_of_lt}
-use native.Mathlib.Numerals.{add-one}
-use native.Mathlib.Omega.{arith}
-use lib.ListN.{length, take, drop, replicate}
-use Rattle.lists.specs.Tab.{tab}
-use Rattle.lists.proofs.Laws.{front_all, lent, length_tab, tab_same, tab_append, tab_one}
-use Rattle.slots.specs.Shows.{runs}
+-- Pixels in runs of dots, as a loop shows them one after another, are a cell's dots in each colour mode.
+use Rattle.std.proofs.Common.{◌≡◌, refl, ap, ℕ, zero, suc, ◌+◌, ◌-◌, ◌*◌, ◌%◌, ◌≤◌, cond, eqb, List, ◌++◌, length, get_or, take, replicate, arith, add-one, ◌∙◌}
+use Rattle.std.proofs.lemmas.List.{length-replicate}
+use Rattle.std.proofs.lemmas.Slice.{take-put_mid}
+use borrow.Rule.Slice.PartMut.{put_mid}
+use Rattle.nick.specs.Colour.{two_index, four_index, sixteen_index}
+use Rattle.blocks.specs.declared.mode.ColourMode.TheVariants.{Two, Four, Sixteen, All}
+use Rattle.colour.specs.Cell.{cell_pixel}
+use Rattle.colour.specs.declared.Cell.{Cell}
+use Rattle.slots.specs.Shows.{runs, plain_dots}
 
--- pixel k of n lies inside their dots
-pub run_fits : (n k run : ℕ) → k < n → k * run + run ≤ n * run
-run_fits n k run h = rw (sym (suc-mul k run)) (mul-le-mul_right run h)
+-- one pixel more is shown in its run
+pub runs_more : (c : ℕ → ℕ) (k run : ℕ) (out part : List ℕ)
+    → k * run + run ≤ length out
+    → part ≡ replicate run (c k)
+    → take (k * run) out ≡ runs c k run
+    → take ((k + 1) * run) (put_mid (k * run) (k * run + run - k * run) out part) ≡ runs c (k + 1) run
+runs_more c k run out part fits filled made =
+    let long : (k + 1) * run ≡ k * run + length (replicate run (c k)) = rw length-replicate (omega arith) in
+    rw (filled, add-one k)
+    (rw add-one at (take-put_mid (k * run) (k * run + run - k * run) out (replicate run (c k)) ((k + 1) * run) long (omega arith))
+    ∙ ap (λ (l : List ℕ). l ++ replicate run (c k)) made)
 
-module _ (g : ℕ → ℕ) (run : ℕ) where
-  pub length_runs : (n : ℕ) → length (runs g n run) ≡ n * run
-  unfolding runs
-  length_runs n = length_tab (λ j. g (j / run)) (n * run)
+module _ (palette : List ℕ) (cell : Cell) where
+  -- the colour of pixel k in two, four and sixteen colours
+  abbrev pub two_shown : ℕ → ℕ
+  two_shown k = get_or palette (cond (eqb (two_index cell.byte k) 0) (cell.low % 16) (cell.high % 16)) 0
 
-  -- one pixel more
-  more : (k : ℕ) → 0 < run → runs g k run ++ replicate run (g k) ≡ runs g (k + 1) run
-  unfolding runs
-  more k h =
-      ap (λ (l : List ℕ). tab (λ j. g (j / run)) (k * run) ++ l)
-      (sym (tab_one (g k) run)
-      ∙ tab_same (λ i. g k) (λ i. g ((k * run + i) / run)) run
-      (λ i l. ap g (sym (mul-add-div_right h k i ∙ ap (λ (q : ℕ). k + q) (div-eq_of_lt l) ∙ add-zero k))))
-      ∙ sym (tab_append (λ j. g (j / run)) (k * run) run)
-      ∙ ap (tab (λ j. g (j / run))) (sym (suc-mul k run) ∙ ap (λ (m : ℕ). m * run) (sym (add-one k)))
+  abbrev pub four_shown : ℕ → ℕ
+  four_shown k = get_or palette (four_index cell.byte k) 0
 
-  -- one pixel more is shown in its run
-  pub runs_more : (d out : List ℕ) (k : ℕ) → 0 < run → out ≡ runs g k run ++ drop (k * run) d
-      → take (k * run) out ++ (replicate run (g k) ++ drop run (drop (k * run) out)) ≡ runs g (k + 1) run ++ drop ((k + 1) * run) d
-  runs_more d out k h made =
-      rw made
-      (lent (runs g k run) d (replicate run (g k)) (k * run) run (length_runs k)
-      ∙ ap (λ (l : List ℕ). l ++ drop (k * run + run) d) (more k h)
-      ∙ ap (λ (m : ℕ). runs g (k + 1) run ++ drop m d) (sym (suc-mul k run) ∙ ap (λ (m : ℕ). m * run) (sym (add-one k))))
+  abbrev pub sixteen_shown : ℕ → ℕ
+  sixteen_shown k = get_or palette (sixteen_index cell.byte k) 0
 
-  -- all pixels are shown
-  pub runs_all : (d out : List ℕ) (k n : ℕ) → k ≡ n → length d ≡ n * run → out ≡ runs g k run ++ drop (k * run) d → out ≡ runs g n run
-  runs_all d out k n e h made = made ∙ rw e (front_all (runs g n run) d (n * run) (omega (arith, h)))
+  pub two_dots : (run : ℕ) → run ≤ 2 → cell.colours ≡ Two → runs two_shown 8 run ≡ plain_dots palette cell run
+  unfolding plain_dots cell_pixel
+  two_dots zero l h = refl
+  two_dots (suc zero) l h = rw h refl
+  two_dots (suc (suc zero)) l h = rw h refl
+  two_dots (suc (suc (suc n))) l h = absurd (omega arith)
 
-  -- no pixel is shown yet
-  pub runs_none : (d : List ℕ) → d ≡ runs g 0 run ++ drop (0 * run) d
-  unfolding runs
-  runs_none d = rw (zero-mul run) refl
+  pub four_dots : (run : ℕ) → run ≤ 2 → cell.colours ≡ Four → runs four_shown 4 (2 * run) ≡ plain_dots palette cell run
+  unfolding plain_dots cell_pixel
+  four_dots zero l h = refl
+  four_dots (suc zero) l h = rw h refl
+  four_dots (suc (suc zero)) l h = rw h refl
+  four_dots (suc (suc (suc n))) l h = absurd (omega arith)
+
+  pub sixteen_dots : (run : ℕ) → run ≤ 2 → cell.colours ≡ Sixteen → runs sixteen_shown 2 (4 * run) ≡ plain_dots palette cell run
+  unfolding plain_dots cell_pixel
+  sixteen_dots zero l h = refl
+  sixteen_dots (suc zero) l h = rw h refl
+  sixteen_dots (suc (suc zero)) l h = rw h refl
+  sixteen_dots (suc (suc (suc n))) l h = absurd (omega arith)
+
+  pub all_dots : (run : ℕ) → run ≤ 2 → cell.colours ≡ All → plain_dots palette cell run ≡ replicate (8 * run) cell.byte
+  unfolding plain_dots cell_pixel
+  all_dots zero l h = refl
+  all_dots (suc zero) l h = rw h refl
+  all_dots (suc (suc zero)) l h = rw h refl
+  all_dots (suc (suc (suc n))) l h = absurd (omega arith)

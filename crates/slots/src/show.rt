@@ -1,201 +1,130 @@
-// The sixteen dots that a slot's cells show: by runs of dots where no external input is connected, else dot by dot.
-ghost use Rattle.std.specs.Prelude.{◌≡◌, ◌++◌, ◌+◌, ◌*◌, ◌<◌, ◌≤◌, cond, eqb, length, set, take, drop, replicate};
-ghost use Rattle.nick.specs.Numbers.{bit, byte_at};
-ghost use Rattle.colour.specs.Cell.{palette_of};
-ghost use Rattle.slots.specs.Shows.{
-  runs,
-  two_shown,
-  four_shown,
-  sixteen_shown,
-  cell_dots,
-  plain_dots,
-  mixed_dot,
-  mixed_dots,
-};
+// The sixteen dots that a slot's cells show: each cell by runs of dots from the palette, and external colour over them.
+ghost use Rattle.std.specs.Prelude.{◌≡◌, ◌*◌, ◌<◌, ◌≤◌, ℕ, length};
+ghost use Rattle.nick.specs.Slots.{mode_of};
+ghost use Rattle.colour.specs.Cell.{cell_pixel, palette_of};
+ghost use Rattle.slots.specs.Shows.{runs, pixel_shown, mixed_shown, plain_dots, shown_dots, cells_dots};
 
-use colour::Cell;
-use fetch::Fetched;
+use blocks::ColourMode;
+use colour::{Cell, bit_of, external_wins, four_index, pixel_at, sixteen_index};
+use fetch::Cells;
 use nick::{Block, Registers};
 
-// Shows pixel `k` in its `run` dots.
-fn show_run(out: &mut [u8], k: usize, run: usize, shown: u8)
-    requires { k * run + run ≤ length out.old }
-    ensures { out.new ≡ take (k * run) out.old ++ (replicate run shown ++ drop run (drop (k * run) out.old)) }
+// Shows `n` pixels, each in `run` dots; `shown` gives the colour of pixel k. Of the dots that chunks_exact_mut leaves std says
+// nothing. Inlined with its callers, so that the lengths of the runs are constants: else painting takes up to twice the instructions.
+#[inline(always)]
+fn show_pixels<F: Fn(u8) -> u8>(n: usize, run: usize, out: &mut [u8], shown: F)
+    requires size { (n ≤ 8) × (run ≤ 8) × (length out.old ≡ n * run) }
+    requires callable { (k : ℕ) → k < n → F.pre shown k }
+    ensures { (c : ℕ → ℕ) → ((k r : ℕ) → k < n → F.post shown k r → r ≡ c k) → out.new ≡ runs c n run }
 {
-    let a = k * run;
-    let e = a + run;
-    lists::fill(&mut out[a..e], shown);
-}
-
-// The colour that bit k of a byte stands for in two colours.
-fn two_shown(byte: u8, k: u8, clear: u8, set: u8) -> u8
-    requires { k < 8 }
-    ensures { result ≡ cond (eqb (bit k byte) 0) clear set }
-{
-    if colour::bit_of(byte, k) == 0 {
-        clear
-    } else {
-        set
+    for k in 0..n {
+        out[k * run..k * run + run].fill(shown(k as u8));
     }
 }
 
-// Shows a byte in two colours, each pixel in `run` dots.
-fn show_two(byte: u8, clear: u8, set: u8, run: usize, out: &mut [u8])
-    requires { (1 ≤ run) × (run ≤ 8) × (length out.old ≡ 8 * run) }
-    ensures { out.new ≡ runs (two_shown byte clear set) 8 run }
+// Shows a cell by the palette, each eighth of it in `run` dots.
+#[tactic(auto, using(colour::proofs::Weights::four_below, colour::proofs::Weights::sixteen_below, crate::proofs::Runs::all_dots))]
+#[inline(always)]
+fn show_plain(palette: &[u8; 16], cell: Cell, run: usize, out: &mut [u8])
+    requires { (run ≤ 2) × (length out.old ≡ 8 * run) }
+    ensures { out.new ≡ plain_dots palette.now cell run }
 {
-    let mut k = 0;
-    while k < 8 {
-        let shown = two_shown(byte, 7 - k, clear, set);
-        show_run(out, k as usize, run, shown);
-        k += 1;
-    }
-}
-
-// Shows a byte in four colours, each pixel in `run` dots.
-fn show_four(palette: &[u8], byte: u8, run: usize, out: &mut [u8])
-    requires { (length palette.now ≡ 16) × (1 ≤ run) × (run ≤ 8) × (length out.old ≡ 4 * run) }
-    ensures { out.new ≡ runs (four_shown palette.now byte) 4 run }
-{
-    let mut k = 0;
-    while k < 4 {
-        let n = colour::four_index(byte, k) as usize;
-        show_run(out, k as usize, run, palette[n]);
-        k += 1;
-    }
-}
-
-// Shows a byte in sixteen colours, each pixel in `run` dots.
-fn show_sixteen(palette: &[u8], byte: u8, run: usize, out: &mut [u8])
-    requires { (length palette.now ≡ 16) × (1 ≤ run) × (run ≤ 8) × (length out.old ≡ 2 * run) }
-    ensures { out.new ≡ runs (sixteen_shown palette.now byte) 2 run }
-{
-    let mut k = 0;
-    while k < 2 {
-        let n = colour::sixteen_index(byte, k) as usize;
-        show_run(out, k as usize, run, palette[n]);
-        k += 1;
-    }
-}
-
-// Shows a cell in eight dots.
-fn show_narrow(palette: &[u8], cell: Cell, out: &mut [u8])
-    requires { (length palette.now ≡ 16) × (length out.old ≡ 8) }
-    ensures { out.new ≡ cell_dots palette.now cell 1 }
-{
-    let colours = cell.colours;
-    match colours {
-        1 => show_four(palette, cell.byte, 2, out),
-        2 => show_sixteen(palette, cell.byte, 4, out),
-        3 => show_run(out, 0, 8, cell.byte),
-        _ => {
-            let low = (cell.low % 16) as usize;
-            let high = (cell.high % 16) as usize;
-            show_two(cell.byte, palette[low], palette[high], 1, out)
+    let byte = cell.byte;
+    match cell.colours {
+        ColourMode::Two => {
+            let clear = palette[(cell.low % 16) as usize];
+            let set = palette[(cell.high % 16) as usize];
+            let shown = |k| if bit_of(byte, 7 - k) == 0 { clear } else { set };
+            show_pixels(8, run, out, shown)
         }
-    }
-}
-
-// Shows a cell in sixteen dots.
-fn show_wide(palette: &[u8], cell: Cell, out: &mut [u8])
-    requires { (length palette.now ≡ 16) × (length out.old ≡ 16) }
-    ensures { out.new ≡ cell_dots palette.now cell 2 }
-{
-    let colours = cell.colours;
-    match colours {
-        1 => show_four(palette, cell.byte, 4, out),
-        2 => show_sixteen(palette, cell.byte, 8, out),
-        3 => show_run(out, 0, 16, cell.byte),
-        _ => {
-            let low = (cell.low % 16) as usize;
-            let high = (cell.high % 16) as usize;
-            show_two(cell.byte, palette[low], palette[high], 2, out)
+        ColourMode::Four => {
+            let shown = |k| palette[four_index(byte, k) as usize];
+            show_pixels(4, 2 * run, out, shown)
         }
+        ColourMode::Sixteen => {
+            let shown = |k| palette[sixteen_index(byte, k) as usize];
+            show_pixels(2, 4 * run, out, shown)
+        }
+        ColourMode::All => out.fill(byte),
     }
 }
 
-// Shows two cells of eight dots each.
-fn show_halves(palette: &[u8], first: Cell, second: Cell, out: &mut [u8])
-    requires { (length palette.now ≡ 16) × (length out.old ≡ 16) }
-    ensures { out.new ≡ cell_dots palette.now first 1 ++ cell_dots palette.now second 1 }
+// Shows external colour over a dot where it wins; the dot shows the eighth `at` of the cell. Where bit 7 of the external byte is
+// clear, no pixel is needed.
+#[tactic(auto, unfolding(crate::specs::Shows::mixed_shown))]
+fn mix(registers: Registers, palette: &[u8; 16], cell: Cell, at: u8, external: u8, dot: &mut u8)
+    requires { (at < 8) × (dot.old ≡ pixel_shown palette.now (cell_pixel cell at)) }
+    ensures { dot.new ≡ mixed_shown registers palette.now (cell_pixel cell at) external }
 {
-    show_narrow(palette, first, &mut out[0..8]);
-    show_narrow(palette, second, &mut out[8..16]);
-}
-
-// Shows a slot where no external input is connected.
-fn show_plain(palette: &[u8], fetched: Fetched, out: &mut [u8])
-    requires { (length palette.now ≡ 16) × (length out.old ≡ 16) }
-    ensures { out.new ≡ plain_dots palette.now fetched }
-{
-    if fetched.halves {
-        show_halves(palette, fetched.first, fetched.second, out)
-    } else {
-        show_wide(palette, fetched.first, out)
+    if 128 <= external && external_wins(registers, pixel_at(cell, at), external) {
+        *dot = palette[(external % 16) as usize];
     }
 }
 
-// The external byte of a dot; 0 where nothing is connected.
-fn external_at(external: &[u8], i: usize) -> u8
-    ensures { result ≡ byte_at external.now i }
-{
-    if i < external.len() { external[i] } else { 0 }
-}
-
-// Shows dot `j` of a slot with its external byte.
-fn show_dot(
+// Shows external colour over the dots of a cell where it wins; the external byte of dot j is number `from` + j.
+#[tactic(auto, using(crate::proofs::Cells::eighth_below, crate::proofs::Cells::plain_at), unfolding(crate::specs::Shows::shown_dots))]
+fn show_external(
     registers: Registers,
-    block: Block,
-    fetched: Fetched,
-    out: &mut [u8],
-    j: usize,
-    external: &[u8],
-    from: usize,
-)
-    requires { (length out.old ≡ 16) × (j < 16) × (from ≤ 736) }
-    ensures { out.new ≡ set out.old j (mixed_dot registers block fetched external.now from j) }
-{
-    let pixel = fetch::pixel_at(fetched, j);
-    let e = external_at(external, from + j);
-    out[j] = colour::mixed_colour(registers, block, pixel, e);
-}
-
-// Shows a slot dot by dot, external colour considered.
-fn show_mixed(
-    registers: Registers,
-    block: Block,
-    fetched: Fetched,
+    palette: &[u8; 16],
+    cell: Cell,
+    run: usize,
     out: &mut [u8],
     external: &[u8],
     from: usize,
 )
-    requires { (length out.old ≡ 16) × (from ≤ 736) }
-    ensures { out.new ≡ mixed_dots registers block fetched external.now from }
+    requires size { (1 ≤ run) × (run ≤ 2) × (from ≤ 744) × (length out.old ≡ 8 * run) }
+    requires plain { out.old ≡ plain_dots palette.now cell run }
+    ensures { out.new ≡ shown_dots registers palette.now cell run external.now from }
 {
-    let mut j = 0;
-    while j < 16 {
-        show_dot(registers, block, fetched, out, j, external, from);
-        j += 1;
+    for (j, dot) in out.iter_mut().enumerate() {
+        let external = external.get(from + j).copied().unwrap_or(0);
+        mix(registers, palette, cell, (j / run) as u8, external, dot);
     }
 }
 
-// Shows the sixteen dots of a slot that fetched; their external bytes are from `from` on.
-#[tactic(auto, using(crate::proofs::CellDots::plain_mixed))]
+// Shows a cell, each eighth of it in `run` dots.
+#[tactic(auto, using(crate::proofs::Cells::plain_shown))]
+#[inline(always)]
+fn show_cell(
+    registers: Registers,
+    palette: &[u8; 16],
+    cell: Cell,
+    run: usize,
+    out: &mut [u8],
+    external: &[u8],
+    from: usize,
+)
+    requires { (1 ≤ run) × (run ≤ 2) × (from ≤ 744) × (length out.old ≡ 8 * run) }
+    ensures { out.new ≡ shown_dots registers palette.now cell run external.now from }
+{
+    show_plain(palette, cell, run, out);
+    if !external.is_empty() {
+        show_external(registers, palette, cell, run, out, external, from);
+    }
+}
+
+// Shows the sixteen dots of a slot; their external bytes are from `from` on. The slice of them in place of `external` and `from`
+// takes up to 20 % more instructions.
+#[tactic(auto, using(crate::proofs::Cells::nothing_dots, crate::proofs::Cells::whole_dots, crate::proofs::Cells::halves_dots))]
 pub fn show(
     registers: Registers,
-    palette: &[u8],
+    palette: &[u8; 16],
     block: Block,
-    fetched: Fetched,
+    cells: Cells,
     out: &mut [u8],
     external: &[u8],
     from: usize,
 )
     requires { (palette.now ≡ palette_of registers block) × (length out.old ≡ 16) × (from ≤ 736) }
-    ensures { out.new ≡ mixed_dots registers block fetched external.now from }
+    ensures { out.new ≡ cells_dots registers block (mode_of block) cells external.now from }
 {
-    if external.len() == 0 {
-        show_plain(palette, fetched, out)
-    } else {
-        show_mixed(registers, block, fetched, out, external, from)
+    match cells {
+        Cells::Nothing => out.fill(fetch::unfetched(registers, block)),
+        Cells::Whole(cell) => show_cell(registers, palette, cell, 2, out, external, from),
+        Cells::Halves(first, second) => {
+            let (left, right) = out.split_at_mut(8);
+            show_cell(registers, palette, first, 1, left, external, from);
+            show_cell(registers, palette, second, 1, right, external, from + 8);
+        }
     }
 }

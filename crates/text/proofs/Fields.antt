@@ -1,17 +1,41 @@
 -- Laws on numbers that each stand after a tab.
-use mathlib.Core.Path.{◌≡◌, refl, sym}
+use mathlib.Core.Path.{◌≡◌, refl, sym, ap, ◌∙◌}
 use mathlib.Core.List.{List, [], ◌∷◌, ◌++◌, append-nil, append_assoc}
-use Prim.Native.Nat.{ℕ}
+use Prim.Native.Nat.{ℕ, suc, ◌+◌, ◌<◌, ◌≤◌}
+use native.Mathlib.Numerals.{add-one}
+use native.Mathlib.Omega.{arith}
+use lib.ListN.{length, get_or, take, drop, length-append}
+use lib.Seq.{take-suc, split_at}
 use Rattle.text.specs.Decimal.{TAB, decimal, tabbed}
 
 -- a number after a tab
 abbrev pub field : ℕ → List ℕ
 field n = TAB ∷ decimal n
 
+pub no_field : tabbed [] ≡ []
+unfolding tabbed
+no_field = refl
+
 pub one_field : (n : ℕ) → tabbed (n ∷ []) ≡ field n
+unfolding tabbed
 one_field n = append-nil (field n)
 
 -- tabbed numbers after tabbed numbers
 pub tabbed_append : (xs ys : List ℕ) → tabbed (xs ++ ys) ≡ tabbed xs ++ tabbed ys
+unfolding tabbed
 tabbed_append [] ys = refl
 tabbed_append (n ∷ xs) ys = rw (tabbed_append xs ys) (sym (append_assoc (TAB ∷ decimal n) (tabbed xs) (tabbed ys)))
+
+-- one number more of several
+module _ (ns : List ℕ) (i : ℕ) (h : i < length ns) where
+  pub fields_more : tabbed (take (i + 1) ns) ≡ tabbed (take i ns) ++ field (get_or ns i 0)
+  fields_more = rw (add-one i, take-suc ns i 0 h, tabbed_append (take i ns) (get_or ns i 0 ∷ []), one_field (get_or ns i 0))
+
+  pub fields_room : length (tabbed (take i ns)) + length (field (get_or ns i 0)) ≤ length (tabbed ns)
+  unfolding tabbed
+  fields_room =
+      let front = take i ns in
+      let rest = drop (suc i) ns in
+      let n = get_or ns i 0 in
+      let parts : tabbed ns ≡ tabbed front ++ (field n ++ tabbed rest) = ap tabbed (split_at ns i 0 h) ∙ tabbed_append front (n ∷ rest) in
+      rw (parts, length-append (tabbed front) (field n ++ tabbed rest), length-append (field n) (tabbed rest)) (omega arith)

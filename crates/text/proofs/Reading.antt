@@ -13,7 +13,7 @@ use lib.Seq.{take-suc, take_all, split_at}
 use borrow.Author.Tests.{lt-ltb, le-ltb, ne_eqb}
 use Rattle.text.specs.Decimal.{decimal}
 use Rattle.text.specs.Reading.{digit, digits, value_from, number_of}
-use Rattle.text.specs.declared.number.Number.TheVariants.{Value, Missing}
+use Rattle.std.specs.Prelude.{Some, None}
 use Rattle.text.proofs.Decimal.{decimal_one, decimal_more}
 
 -- digits and value of a text in two parts
@@ -42,7 +42,7 @@ module _ (text : List ℕ) where
         bound_early n d = omega arith
 
     -- a byte that is no digit
-    pub none_spoilt : 9 < digit (get_or text i 0) → Missing ≡ number_of text
+    pub none_spoilt : 9 < digit (get_or text i 0) → None ≡ number_of text
     unfolding number_of
     none_spoilt l =
         let rest = drop (suc i) text in
@@ -52,12 +52,12 @@ module _ (text : List ℕ) where
         ∙ rw (lt-ltb 9 (digit (get_or text i 0)) l) (and-false (digits (take i text))) in
         rw none (rw (or-true (eqb (length text) 0)))
 
-  pub none_empty : length text ≡ 0 → Missing ≡ number_of text
+  pub none_empty : length text ≡ 0 → None ≡ number_of text
   unfolding number_of
   none_empty h = rw h
 
   pub some_number : (i v : ℕ) → length text ≤ i → (length text ≡ 0 → ⊥) → digits (take i text) ≡ true
-      → v ≡ min (value_from 0 (take i text)) 65536 → Value v ≡ number_of text
+      → v ≡ min (value_from 0 (take i text)) 65536 → Some v ≡ number_of text
   unfolding number_of
   some_number i v e h d p =
       let all = take_all i text e in
@@ -100,7 +100,7 @@ pub decimal_determines : (m n : ℕ) → decimal m ≡ decimal n → m ≡ n
 decimal_determines m n e = sym (spells m).value ∙ ap (value_from 0) e ∙ (spells n).value
 
 -- what is written is read back
-pub read_back : (n : ℕ) → number_of (decimal n) ≡ Value (min n 65536)
+pub read_back : (n : ℕ) → number_of (decimal n) ≡ Some (min n 65536)
 unfolding number_of
 read_back n =
     let s = spells n in

@@ -19,6 +19,6 @@ unfoldable pub decimal : ℕ → List ℕ
 decimal n = digits_of (suc n) n
 
 -- "One tab stands between fields": numbers, each after a tab
-abbrev pub tabbed : List ℕ → List ℕ
+unfoldable pub tabbed : List ℕ → List ℕ
 tabbed [] = []
 tabbed (n ∷ more) = (TAB ∷ decimal n) ++ tabbed more

@@ -1,7 +1,5 @@
 -- The number that decimal digits spell, most significant first.
-use Rattle.std.specs.Prelude.{ℕ, ◌+◌, ◌-◌, ◌*◌, min, Bool, true, cond, not, ◌&&◌, ◌||◌, List, [], ◌∷◌, eqb, ltb, length}
-use Rattle.text.specs.declared.number.Number.{Number}
-use Rattle.text.specs.declared.number.Number.TheVariants.{Value, Missing}
+use Rattle.std.specs.Prelude.{ℕ, Option, Some, None, ◌+◌, ◌-◌, ◌*◌, min, Bool, true, cond, not, ◌&&◌, ◌||◌, List, [], ◌∷◌, eqb, ltb, length}
 
 -- the value of a digit; 10 for any other byte
 abbrev pub digit : ℕ → ℕ
@@ -18,5 +16,5 @@ value_from v [] = v
 value_from v (b ∷ more) = value_from (10 * v + digit b) more
 
 -- a text's number, at most 65,536; an empty text and one with any other byte have none
-unfoldable pub number_of : List ℕ → Number
-number_of text = cond (eqb (length text) 0 || not (digits text)) Missing (Value (min (value_from 0 text) 65536))
+unfoldable pub number_of : List ℕ → Option ℕ
+number_of text = cond (eqb (length text) 0 || not (digits text)) None (Some (min (value_from 0 text) 65536))

@@ -1,73 +1,94 @@
-// Writing text into a buffer from a place on: each function answers the place after its text, and bytes past the buffer's
-// end are counted and not stored. Reading a number is in module `number`.
+// Writing text into a buffer, and reading a number, in module `number`.
 #![tactic(auto)]
 
-ghost use Rattle.std.specs.Prelude.{[], ◌∷◌};
-ghost use Rattle.text.specs.Decimal.{TAB, decimal, tabbed};
-ghost use Rattle.text.specs.Writing.{Room, Wrote};
+ghost use Rattle.std.specs.Prelude.{[], ◌∷◌, ◌≡◌};
+ghost use Rattle.text.specs.Decimal.{TAB as Decimal·TAB, decimal, tabbed};
+ghost use Rattle.text.specs.Writing.{Room, wrote};
 
 mod number;
 
-pub use number::{Number, number_of};
+pub use number::number_of;
 
 pub const TAB: u8 = b'\t';
 
-// One byte.
-pub fn put_byte(out: &mut [u8], at: usize, byte: u8) -> usize
-    requires { Room at (byte ∷ []) }
-    ensures { Wrote out.old at (byte ∷ []) result out.new }
-{
-    if at < out.len() {
-        out[at] = byte;
-    }
-    at + 1
+// Writes text from the buffer's start on. Bytes past the buffer's end are counted and not stored, so that a writer over an empty
+// buffer measures a text.
+#[derive(Drop)]
+pub struct Writer<'a> {
+    out: &'a mut [u8],
+    end: usize,
 }
 
-// A run of bytes.
-pub fn put_bytes(out: &mut [u8], at: usize, bytes: &[u8]) -> usize
-    requires { Room at bytes.now }
-    ensures { Wrote out.old at bytes.now result out.new }
-{
-    let mut end = at;
-    let mut i = 0;
-    while i < bytes.len() {
-        end = put_byte(out, end, bytes[i]);
-        i += 1;
+impl<'a> Writer<'a> {
+    // A writer at the start of a buffer.
+    pub fn new(out: &'a mut [u8]) -> Self
+        ensures { result ≡ record { out = out.entry; end = 0 } }
+    {
+        Writer { out, end: 0 }
     }
-    end
-}
 
-// A number's decimal digits: those of the number divided by ten, then the last one.
-pub fn put_decimal(out: &mut [u8], at: usize, n: usize) -> usize
-    requires { Room at (decimal n) }
-    ensures { Wrote out.old at (decimal n) result out.new }
-{
-    if n < 10 {
-        return put_byte(out, at, b'0' + n as u8);
+    // How long the text is so far.
+    pub fn end(&self) -> usize
+        ensures { result ≡ self.now.end }
+    {
+        self.end
     }
-    let end = put_decimal(out, at, n / 10);
-    put_byte(out, end, b'0' + (n % 10) as u8)
-}
 
-// A tab and a number.
-pub fn put_field(out: &mut [u8], at: usize, n: usize) -> usize
-    requires { Room at (TAB ∷ decimal n) }
-    ensures { Wrote out.old at (TAB ∷ decimal n) result out.new }
-{
-    let at = put_byte(out, at, TAB);
-    put_decimal(out, at, n)
-}
-
-// Numbers, each after a tab.
-pub fn put_fields(out: &mut [u8], at: usize, numbers: &[usize]) -> usize
-    requires { Room at (tabbed numbers.now) }
-    ensures { Wrote out.old at (tabbed numbers.now) result out.new }
-{
-    let mut end = at;
-    let mut i = 0;
-    while i < numbers.len() {
-        end = put_field(out, end, numbers[i]);
-        i += 1;
+    // One byte.
+    #[tactic(auto, unfolding(crate::specs::Writing::wrote))]
+    pub fn put_byte(&mut self, byte: u8)
+        requires { Room self.old (byte ∷ []) }
+        ensures { self.new ≡ wrote self.old (byte ∷ []) }
+    {
+        if self.end < self.out.len() {
+            self.out[self.end] = byte;
+        }
+        self.end += 1;
     }
-    end
+
+    // A run of bytes.
+    #[tactic(auto, using(crate::proofs::Writing::writing, crate::proofs::Writing::wrote_more))]
+    pub fn put_bytes(&mut self, bytes: &[u8])
+        requires { Room self.old bytes.now }
+        ensures { self.new ≡ wrote self.old bytes.now }
+    {
+        for byte in bytes {
+            self.put_byte(*byte);
+        }
+    }
+
+    // A number's decimal digits: those of the number divided by ten, then the last one.
+    #[tactic(auto, using(crate::proofs::Decimal::decimal_one, crate::proofs::Decimal::decimal_more, crate::proofs::Writing::writing))]
+    pub fn put_decimal(&mut self, n: usize)
+        requires { Room self.old (decimal n) }
+        ensures { self.new ≡ wrote self.old (decimal n) }
+    {
+        if n < 10 {
+            self.put_byte(b'0' + n as u8);
+            return;
+        }
+        self.put_decimal(n / 10);
+        self.put_byte(b'0' + (n % 10) as u8);
+    }
+
+    // A tab and a number.
+    #[tactic(auto, using(crate::proofs::Writing::writing))]
+    pub fn put_field(&mut self, n: usize)
+        requires { Room self.old (Decimal·TAB ∷ decimal n) }
+        ensures { self.new ≡ wrote self.old (Decimal·TAB ∷ decimal n) }
+    {
+        self.put_byte(TAB);
+        self.put_decimal(n);
+    }
+
+    // Numbers, each after a tab.
+    #[tactic(auto, using(crate::proofs::Writing::writing, crate::proofs::Fields::no_field, crate::proofs::Fields::fields_more, crate::proofs::Fields::fields_room))]
+    pub fn put_fields(&mut self, numbers: &[usize])
+        requires { Room self.old (tabbed numbers.now) }
+        ensures { self.new ≡ wrote self.old (tabbed numbers.now) }
+    {
+        for n in numbers {
+            self.put_field(*n);
+        }
+    }
 }

@@ -1,4 +1,3 @@
 pub mod Rises
 pub mod ModeLines
 pub mod Walking
-pub mod ModeSteps

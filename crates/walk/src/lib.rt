@@ -2,19 +2,19 @@
 // singly.
 #![tactic(auto)]
 
-ghost use Rattle.std.specs.Prelude.{◌≡◌, ◌<◌, ◌≤◌, min, length, if◌then◌else◌};
+ghost use Rattle.std.specs.Prelude.{◌≡◌, ◌<◌, ◌≤◌, min, if◌then◌else◌};
 ghost use Rattle.nick.specs.Blocks.{vres};
-ghost use Rattle.nick.specs.Slots.{mode_numbered};
 ghost use Rattle.nick.specs.Scanline.{pointers_after};
+ghost use Rattle.blocks.specs.Modes.{mode_named};
 ghost use Rattle.walk.specs.Steps.{StepsOf, advanced, skipped};
 ghost use Rattle.nick.specs.Refusals.{Formed};
 ghost use Rattle.walk.specs.Walks.{Reached, Turns};
 
-use blocks::{ATTR, CH64, CH256, LPIXEL, PIXEL, active_before, has_vres, video_mode};
-use nick::{Block, Pointers, Registers, Scan};
+use blocks::{VideoMode, active_before, has_vres, video_mode};
+use nick::{Block, Pointers, Ram, Registers, Scan};
 
 // By how much LD1 and LD2 go up at an active slot, and LD2 at a scanline's end.
-#[derive(Clone, Copy)]
+#[derive(Clone, Copy, PartialEq, Eq)]
 struct Steps {
     pub ld1: u16,
     pub ld2: u16,
@@ -22,34 +22,28 @@ struct Steps {
 }
 
 // One turn of the walk: how many scanlines it went on, and the scan after them.
-#[derive(Clone, Copy)]
+#[derive(Clone, Copy, PartialEq, Eq)]
 struct Turned {
     lines: usize,
     scan: Scan,
 }
 
-// These steps.
-fn steps_by(ld1: u16, ld2: u16, line: u16) -> Steps
-    ensures { result ≡ record { ld1 = ld1; ld2 = ld2; line = line } }
+// The steps of a video mode.
+fn steps_of(mode: VideoMode) -> Steps
+    ensures { StepsOf (mode_named mode) result }
 {
+    let (ld1, ld2, line) = match mode {
+        VideoMode::Pixel => (2, 0, 0),
+        VideoMode::Attr => (1, 1, 0),
+        VideoMode::Character(_) => (1, 0, 1),
+        VideoMode::Lpixel => (1, 0, 0),
+        VideoMode::Vsync | VideoMode::Unused => (0, 0, 0),
+    };
     Steps { ld1, ld2, line }
 }
 
-// The steps of a video mode.
-fn steps_of(mode: u8) -> Steps
-    requires { mode < 8 }
-    ensures { StepsOf (mode_numbered mode) result }
-{
-    match mode {
-        PIXEL => steps_by(2, 0, 0),
-        ATTR => steps_by(1, 1, 0),
-        CH256..=CH64 => steps_by(1, 0, 1),
-        LPIXEL => steps_by(1, 0, 0),
-        _ => steps_by(0, 0, 0),
-    }
-}
-
 // LD1 gone up by `ld1` and LD2 by `ld2`.
+#[tactic(auto, unfolding(crate::specs::Steps::advanced))]
 fn advance(at: Pointers, ld1: u16, ld2: u16) -> Pointers
     ensures { result ≡ advanced ld1 ld2 at }
 {
@@ -60,6 +54,7 @@ fn advance(at: Pointers, ld1: u16, ld2: u16) -> Pointers
 }
 
 // The pointers at dot slot `slot`, where `at` are those at the first.
+#[tactic(auto, using(crate::proofs::Rises::pointers_after_lem))]
 pub fn pointers_at(block: Block, at: Pointers, slot: u16) -> Pointers
     requires { slot ≤ 46 }
     ensures { result ≡ pointers_after block slot at }
@@ -78,6 +73,7 @@ fn lines_of_ld1(block: Block, lines: u16) -> u16
 }
 
 // The scan after `lines` scanlines of a mode line, from the scan as the first of them begins.
+#[tactic(auto, unfolding(crate::specs::Steps::skipped))]
 fn skip(scan: Scan, lines: u16) -> Scan
     requires { (lines ≤ 256) × (lines ≤ scan.left) }
     ensures { result ≡ skipped scan lines }
@@ -87,14 +83,10 @@ fn skip(scan: Scan, lines: u16) -> Scan
     let active = active_before(block, 46);
     let ld1 = lines_of_ld1(block, lines) * (steps.ld1 * active);
     let ld2 = lines * (steps.ld2 * active + steps.line);
-    let at = scan.at;
-    let at = advance(at, ld1, ld2);
     Scan {
-        pending: scan.pending,
-        block,
-        number: scan.number,
-        at,
+        at: advance(scan.at, ld1, ld2),
         left: scan.left - lines,
+        ..scan
     }
 }
 
@@ -105,33 +97,32 @@ fn lines_inside(scan: Scan, lines: usize) -> u16
     if scan.pending {
         return 1;
     }
-    if lines < scan.left as usize {
-        return lines as u16;
-    }
-    scan.left
+    usize::from(scan.left).min(lines) as u16
 }
 
 // One turn: the scanlines up to the next load, at most `lines` of them.
-fn turn(registers: Registers, ram: &[u8], scan: Scan, lines: usize) -> Turned
-    requires { (length ram.now ≡ 65536) × Formed scan × (1 ≤ lines) }
+#[tactic(auto, using(crate::proofs::Walking::begun_left, crate::proofs::Walking::lines_together, crate::proofs::Walking::scan_together, crate::proofs::Walking::formed_together))]
+fn turn(registers: Registers, ram: &Ram, scan: Scan, lines: usize) -> Turned
+    requires { Formed scan × (1 ≤ lines) }
     ensures { Turns registers ram.now scan lines result }
 {
     let begun = blocks::begin(registers, ram, scan);
     let n = lines_inside(begun, lines);
-    let scan = skip(begun, n);
     Turned {
-        lines: n as usize,
-        scan,
+        lines: usize::from(n),
+        scan: skip(begun, n),
     }
 }
 
 // The scan after `lines` scanlines, from block to block.
-pub fn walk(registers: Registers, ram: &[u8], scan: Scan, lines: usize) -> Scan
-    requires { (length ram.now ≡ 65536) × Formed scan }
+#[tactic(auto, using(laws::proofs::StatesAfter::scan_add))]
+pub fn walk(registers: Registers, ram: &Ram, scan: Scan, lines: usize) -> Scan
+    requires { Formed scan }
     ensures { Reached registers ram.now scan lines result }
 {
     let mut at = scan;
     let mut done = 0;
+    // turns differ in length, so no range counts them
     while done < lines {
         let turned = turn(registers, ram, at, lines - done);
         at = turned.scan;

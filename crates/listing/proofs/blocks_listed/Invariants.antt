@@ -1,10 +1,7 @@
 -- `listing::blocks_listed`: after k blocks without RELOAD, all that are listed are k and those from the next block on.
-use Rattle.std.proofs.Common.{◌+◌, ◌-◌, ◌≡◌, ◌≤◌}
+use Rattle.std.proofs.Common.{◌+◌, ◌≡◌}
 use Rattle.listing.proofs.BlocksLeft.{blocks_after}
 use Rattle.listing.proofs.blocks_listed.Given as goal
 
 abbrev pub invariant-loop-k : goal.invariant-loop-k
-invariant-loop-k l = (l.k ≤ 4096) × (blocks_after 4096 l.ram l.base 0 ≡ l.k + blocks_after 4096 l.ram l.base l.k)
-
-abbrev pub decreases-loop-k : goal.decreases-loop-k
-decreases-loop-k l = 4096 - l.k
+invariant-loop-k l = blocks_after 4096 l.ram l.base 0 ≡ l.k + blocks_after 4096 l.ram l.base l.k

@@ -1,11 +1,8 @@
--- `listing::put_lines`: after k turns the lines of the first k blocks are written.
-use Rattle.std.proofs.Common.{◌-◌, ◌≤◌}
+-- `listing::put_lines`: the lines of the blocks passed are written.
+use Rattle.std.proofs.Common.{◌≡◌}
 use Rattle.nick.specs.Listing.{block_lines}
-use Rattle.text.specs.Writing.{Wrote}
+use Rattle.text.specs.Writing.{wrote}
 use Rattle.listing.proofs.put_lines.Given as goal
 
 abbrev pub invariant-loop-k : goal.invariant-loop-k
-invariant-loop-k l = (l.k ≤ l.count) × Wrote l.initial.out l.at (block_lines l.registers l.ram l.k) l.end l.out
-
-abbrev pub decreases-loop-k : goal.decreases-loop-k
-decreases-loop-k l = l.count - l.k
+invariant-loop-k l = l.writer ≡ wrote l.initial.writer (block_lines l.fn.registers l.ram l.k)

@@ -1,24 +1,26 @@
 // The script of a case: its steps, the bytes after them, and the height that the buffers are made for.
-ghost use Rattle.std.specs.Prelude.{◌≡◌, ◌*◌, ◌≤◌, length};
-ghost use Rattle.cases.specs.Head.{Drawn};
+ghost use Rattle.std.specs.Prelude.{◌≤◌, MatchOption};
 
-use crate::lengths::wide;
-use cases::{Case, Source};
+use cases::{Head, Lines, Source};
 
-// A script that is drawn: the generator after it, its length, and the height that the buffers are made for.
-#[derive(Clone, Copy)]
-pub struct Drawing {
-    pub source: Source,
-    pub length: usize,
-    pub lent: usize,
-}
+// The bytes of the longest script, of 1,280 steps, and of what may follow its last one.
+pub const MOST_BYTES: usize = 3 * 1280 + 2;
 
 // The kinds of a script's steps: mixed as drawn, all of them 1, or none.
-#[derive(Clone, Copy)]
+#[derive(Clone, Copy, PartialEq, Eq)]
 enum Kinds {
     Mixed,
     Painting,
     Quiet,
+}
+
+// What a script is to be: the kinds of its steps, how many these are, and the height that the buffers are made for, unless that is
+// of the scanlines that they paint.
+#[derive(Clone, Copy, PartialEq, Eq)]
+struct Plan {
+    kinds: Kinds,
+    steps: usize,
+    lines: Option<Lines>,
 }
 
 // The kind of a step by its bytes k and p. An unknown one is drawn only where G says so.
@@ -63,31 +65,12 @@ fn port_of(g: u8, kind: u8, p: u8) -> u8 {
     }
 }
 
-// Makes a step of the three bytes drawn, and answers how many scanlines it paints.
-fn make_step(kinds: Kinds, g: u8, step: &mut [u8]) -> usize
-    requires { length step.old ≡ 3 }
-    ensures { result ≤ 1 }
-{
-    let kind = kind_of(kinds, drawn_kind(g, step[0], step[1]));
+// Makes a step of the three bytes drawn.
+fn make_step(kinds: Kinds, g: u8, step: &mut [u8; 3]) {
+    let [k, p, _] = *step;
+    let kind = kind_of(kinds, drawn_kind(g, k, p));
     step[0] = kind;
-    step[1] = port_of(g, kind, step[1]);
-    if kind == 1 { 1 } else { 0 }
-}
-
-// Makes n steps, and answers how many scanlines they paint.
-fn make_steps(kinds: Kinds, g: u8, n: usize, steps: &mut [u8]) -> usize
-    requires { length steps.old ≡ 3 * n }
-    ensures { result ≤ n }
-{
-    let mut lines = 0;
-    let mut i = 0;
-    while i < n {
-        let a = 3 * i;
-        let e = a + 3;
-        lines += make_step(kinds, g, &mut steps[a..e]);
-        i += 1;
-    }
-    lines
+    step[1] = port_of(g, kind, p);
 }
 
 // How many bytes follow the last step: part of another, where G says so.
@@ -100,87 +83,67 @@ fn tail_length(g: u8) -> usize
     if g / 64 % 2 == 0 { 1 } else { 2 }
 }
 
-// Puts what may follow the last step.
-fn put_tail(tail: &mut [u8])
-    requires { length tail.old ≡ 2 }
+// What a case's script is to be. With fault 3 it has no steps, steps that all paint, for one scanline or more too many, or steps
+// that paint none.
+fn plan_of(head: Head) -> Plan
+    ensures { MatchOption result.lines (result.steps ≤ 1025) (λ _. result.steps ≤ 1280) }
 {
-    tail[0] = 1;
-    tail[1] = 129;
-}
-
-// Draws a script of n steps, with buffers for the scanlines that they paint.
-fn draw_steps(drawn: Case, kinds: Kinds, n: usize, out: &mut [u8]) -> Drawing
-    requires { (n ≤ 1280) × (length out.old ≡ 330000) }
-    ensures { (result.length ≤ 330000) × (result.lent ≤ n) }
-{
-    let g = drawn.head.g;
-    let end = 3 * n;
-    let source = cases::draw(drawn.source, &mut out[0..end]);
-    let lines = make_steps(kinds, g, n, &mut out[0..end]);
-    let tail_end = end + 2;
-    put_tail(&mut out[end..tail_end]);
-    Drawing {
-        source,
-        length: end + tail_length(g),
-        lent: lines,
+    let h = head.height;
+    let steps = if h <= 64 { 8 * h } else { h };
+    if !head.has_fault(3) {
+        return Plan {
+            kinds: Kinds::Mixed,
+            steps,
+            lines: None,
+        };
+    }
+    let (kinds, steps, count) = match head.t[5] % 4 {
+        0 => (Kinds::Mixed, 0, 0),
+        1 => (Kinds::Painting, 1025, 1025),
+        2 => (Kinds::Painting, 1025 + usize::from(head.t[6]), h),
+        _ => (Kinds::Quiet, steps, if head.t[6] % 2 == 1 { h } else { 0 }),
+    };
+    Plan {
+        kinds,
+        steps,
+        lines: Some(Lines { count }),
     }
 }
 
-// A script with buffers for another height.
-fn with_height(drawing: Drawing, lent: usize) -> Drawing
-    ensures { (result.length ≡ drawing.length) × (result.lent ≡ lent) }
+// Draws n steps, and answers how many scanlines they paint.
+fn draw_steps(
+    source: &mut Source,
+    kinds: Kinds,
+    g: u8,
+    n: usize,
+    out: &mut [u8; MOST_BYTES],
+) -> usize
+    requires { n ≤ 1280 }
+    ensures { result ≤ n }
 {
-    let source = drawing.source;
-    Drawing {
-        source,
-        length: drawing.length,
-        lent,
+    let steps = &mut out[..3 * n];
+    source.fill(steps);
+    let (steps, _) = steps.as_chunks_mut::<3>();
+    for step in steps.iter_mut() {
+        make_step(kinds, g, step);
     }
+    steps.iter().filter(|step| step[0] == 1).count()
 }
 
-// How many steps a script of the drawn height has.
-fn steps_of(height: usize) -> usize
-    requires { height ≤ 1024 }
-    ensures { result ≤ 1024 }
-{
-    if height <= 64 { 8 * height } else { height }
-}
-
-// The height that the buffers are made for where no step paints a scanline.
-fn quiet_height(height: usize, t6: u8) -> usize
-    ensures { result ≤ height }
-{
-    if t6 % 2 == 1 { height } else { 0 }
-}
-
-// Draws a script with fault 3: of no steps, of one scanline or more too many, or of steps that paint none.
-fn draw_wrong(drawn: Case, out: &mut [u8]) -> Drawing
-    requires { Drawn drawn.head × (length out.old ≡ 330000) }
-    ensures { (result.length ≤ 330000) × (result.lent ≤ 1025) }
-{
-    let h = drawn.head.height;
-    let t = drawn.head.t;
-    match t[5] % 4 {
-        0 => draw_steps(drawn, Kinds::Mixed, 0, out),
-        1 => draw_steps(drawn, Kinds::Painting, 1025, out),
-        2 => {
-            let drawing = draw_steps(drawn, Kinds::Painting, 1025 + wide(t[6]), out);
-            with_height(drawing, h)
-        }
-        _ => {
-            let drawing = draw_steps(drawn, Kinds::Quiet, steps_of(h), out);
-            with_height(drawing, quiet_height(h, t[6]))
-        }
-    }
-}
-
-// Draws the script of a case.
-pub fn draw_script(drawn: Case, out: &mut [u8]) -> Drawing
-    requires { Drawn drawn.head × (length out.old ≡ 330000) }
-    ensures { (result.length ≤ 330000) × (result.lent ≤ 1025) }
-{
-    if cases::has_fault(drawn.head, 3) {
-        return draw_wrong(drawn, out);
-    }
-    draw_steps(drawn, Kinds::Mixed, steps_of(drawn.head.height), out)
+// Draws the script of a case, and answers it with the height that the buffers are made for.
+pub fn draw_script<'a>(
+    source: &mut Source,
+    head: Head,
+    out: &'a mut [u8; MOST_BYTES],
+) -> (&'a [u8], Lines) {
+    let plan = plan_of(head);
+    let painted = draw_steps(source, plan.kinds, head.g, plan.steps, out);
+    let end = 3 * plan.steps;
+    out[end] = 1;
+    out[end + 1] = 129;
+    let lines = match plan.lines {
+        Some(lines) => lines,
+        None => Lines { count: painted },
+    };
+    (&out[..end + tail_length(head.g)], lines)
 }

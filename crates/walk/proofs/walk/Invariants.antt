@@ -4,7 +4,7 @@ use Rattle.walk.specs.Walks.{Reached}
 use Rattle.walk.proofs.walk.Given as goal
 
 abbrev pub invariant-loop-done : goal.invariant-loop-done
-invariant-loop-done l = (l.done ≤ l.lines) × Reached l.registers l.ram l.initial.at l.done l.at
+invariant-loop-done l = record { within : l.done ≤ l.lines; reached : Reached l.registers l.ram l.initial.at l.done l.at }
 
 abbrev pub decreases-loop-done : goal.decreases-loop-done
 decreases-loop-done l = l.lines - l.done

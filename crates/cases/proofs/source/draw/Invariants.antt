@@ -1,9 +1,0 @@
--- `cases::source::draw` is safe and ends: the slice keeps its length, and the bytes left fall.
-use Rattle.std.proofs.Common.{length, ◌-◌, ◌≡◌}
-use Rattle.cases.proofs.source.draw.Given as goal
-
-abbrev pub invariant-loop-i : goal.invariant-loop-i
-invariant-loop-i l = length l.out ≡ length l.initial.out
-
-abbrev pub decreases-loop-i : goal.decreases-loop-i
-decreases-loop-i l = length l.initial.out - l.i

@@ -1,2 +1,0 @@
-pub mod SignedBytes
-pub mod FoundBytes

@@ -1,9 +1,0 @@
--- `random_cases::writes::run_case` is safe and ends: the tally keeps its length, and the writes left fall.
-use Rattle.std.proofs.Common.{length, ◌-◌, ◌≡◌}
-use Rattle.random_cases.proofs.writes.run_case.Given as goal
-
-abbrev pub invariant-loop-i : goal.invariant-loop-i
-invariant-loop-i l = length l.tally ≡ length l.initial.tally
-
-abbrev pub decreases-loop-i : goal.decreases-loop-i
-decreases-loop-i l = 16 - l.i
