@@ -20,19 +20,18 @@ fn right_margin(block: Block) -> u16
     (u16::from(block.rm) % 64).min(54)
 }
 
-// Whether a dot slot is active.
-pub fn is_active(block: Block, slot: u16) -> bool
-    requires { slot ≤ 46 }
+// Whether a dot slot is active. The margins count the slots of the whole scanline: eight stand before the dot slots.
+pub fn is_active(block: Block, slot: u8) -> bool
     ensures { result ≡ active_at block slot }
 {
-    left_margin(block) <= 8 + slot && 8 + slot < right_margin(block)
+    let slot = 8 + u16::from(slot);
+    left_margin(block) <= slot && slot < right_margin(block)
 }
 
 // How many of the first `slots` dot slots are active.
-pub fn active_before(block: Block, slots: u16) -> u16
-    requires { slots ≤ 46 }
+pub fn active_before(block: Block, slots: u8) -> u16
     ensures { (result ≡ active_before block slots) × (result ≤ 46) }
 {
-    let end = right_margin(block).min(8 + slots);
+    let end = right_margin(block).min(8 + u16::from(slots));
     end.saturating_sub(left_margin(block))
 }

@@ -44,7 +44,8 @@ impl From<CodeWidth> for u8 {
     }
 }
 
-// The width of a character mode's codes, by the mode's number: CH256, CH128 and CH64 are 3, 4 and 5.
+// The width of a character mode's codes, by the mode's number: CH256, CH128 and CH64 are 3, 4 and 5. It is apart, since
+// `video_mode` has the three as a range.
 #[tactic(auto, unfolding(nick::specs::Slots::mode_numbered))]
 pub fn code_width(mode: u8) -> CodeWidth
     requires { (3 ≤ mode) × (mode ≤ 5) }
@@ -58,7 +59,7 @@ pub fn code_width(mode: u8) -> CodeWidth
     }
 }
 
-// The video mode: its number decides.
+// The video mode: its number decides. The match over 0 to 7 with a range is a form that docs/DECISIONS.md 20 names.
 #[tactic(auto, unfolding(nick::specs::Slots::mode_numbered))]
 pub fn video_mode(block: Block) -> VideoMode
     ensures named { mode_named result ≡ mode_of block }
@@ -75,7 +76,7 @@ pub fn video_mode(block: Block) -> VideoMode
     }
 }
 
-// The colour mode.
+// The colour mode: here its number becomes a case, and nothing else reads it.
 #[tactic(auto, unfolding(nick::specs::Colour::colours_numbered))]
 pub fn colour_mode(block: Block) -> ColourMode
     ensures named { colours_named result ≡ colours_of block }
@@ -89,7 +90,7 @@ pub fn colour_mode(block: Block) -> ColourMode
     }
 }
 
-// Whether the block's scanlines hold VIRQ low.
+// Whether the block's scanlines hold VIRQ low. One function for each bit of MB that has a name (docs/DECISIONS.md 35).
 pub fn has_vint(block: Block) -> bool
     ensures { result ≡ vint block }
 {

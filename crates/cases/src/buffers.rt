@@ -42,19 +42,19 @@ impl Buffers {
             records,
             external,
         } = self;
-        let ram_end = head.ram_length();
-        let dots_end = lines.dots(head.wrong(4, head.t[7]));
-        let records_end = lines.records(head.wrong(5, head.t[8]));
-        let external_end = lines.external(head.g / 8 % 2 == 1, head.wrong(6, head.t[9]));
-        source.fill_repeated(&mut external[..external_end]);
-        let lent = Lent {
-            ram: &ram[..ram_end],
-            dots: &mut dots[..dots_end],
-            records: &mut records[..records_end],
-            external: &external[..external_end],
-        };
-        lent.dots.fill(170);
-        lent.records.fill(85);
-        lent
+        let is_connected = head.g / 8 % 2 == 1;
+        let ram = &ram[..head.ram_length()];
+        let dots = &mut dots[..lines.dots(head.wrong(4))];
+        let records = &mut records[..lines.records(head.wrong(5))];
+        let external = &mut external[..lines.external(is_connected, head.wrong(6))];
+        source.fill_repeated(external);
+        dots.fill(170);
+        records.fill(85);
+        Lent {
+            ram,
+            dots,
+            records,
+            external,
+        }
     }
 }

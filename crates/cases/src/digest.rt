@@ -48,7 +48,6 @@ impl Digest {
 
 impl fmt::Display for Digest {
     fn fmt<W: fmt::Write>(&self, f: &mut fmt::Formatter<W>) -> fmt::Result {
-        let x = self.x;
-        write!(f, "{x}")
+        write!(f, "{}", self.x)
     }
 }

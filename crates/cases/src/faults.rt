@@ -1,11 +1,11 @@
-// The faults that every family has.
+// Whether a case has a fault; and faults 0 to 2 of the families that a state, or RAM too, is given to.
 ghost use Rattle.std.specs.Prelude.{◌≤◌};
 
 use crate::head::Head;
 use nick::{Scan, State};
 
 impl Head {
-    // Whether the case has fault n.
+    // Whether the case has fault n. second/README.md numbers the faults, and a number is another fault in another family.
     pub fn has_fault(self, n: u8) -> bool
         requires { n ≤ 6 }
     {

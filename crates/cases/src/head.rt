@@ -4,7 +4,8 @@ ghost use Rattle.std.specs.Prelude.{◌<◌, ◌≤◌};
 use crate::source::Source;
 use nick::{Pointers, Registers, Scan, State};
 
-// The head: F, G and K, the state, the drawn height, and T0 to T9.
+// The head: F, G and K, the state, the drawn height, and T0 to T9. The bytes are drawn, and second/README.md says of each what its bits
+// and remainders decide, in each family its own.
 #[derive(Clone, Copy, PartialEq, Eq)]
 pub struct Head {
     pub f: u8,

@@ -1,10 +1,11 @@
-// Heights and lengths of the buffers of a painting or a comparison, right or wrong by the faults of its case.
+// Heights and lengths of the buffers of a painting or a comparison, right or wrong by the faults of its case. In which way is told by the
+// remainders that second/README.md gives.
 ghost use Rattle.std.specs.Prelude.{◌≡◌, ◌+◌, ◌*◌, ◌≤◌, cond, None};
 
 use crate::head::Head;
 use nick::RECORD_BYTES;
 
-// The dots of a scanline.
+// The dots of a scanline, by name, since a wrong length differs by them too.
 const LINE_DOTS: usize = 736;
 
 // The most bytes that are lent of dots, and of external input.
@@ -51,9 +52,15 @@ impl Head {
     }
 
     // The byte that says how a length is wrong, where the case has the fault.
-    pub fn wrong(self, fault: u8, kind: u8) -> Option<u8>
+    pub fn wrong(self, fault: u8) -> Option<u8>
         requires { fault ≤ 6 }
     {
+        let kind = match fault {
+            0 => self.t[4],
+            4 => self.t[7],
+            5 => self.t[8],
+            _ => self.t[9],
+        };
         self.has_fault(fault).then_some(kind)
     }
 }
@@ -72,7 +79,7 @@ fn wrong_length(kind: u8, right: usize, unit: usize, other: usize) -> usize
 }
 
 impl Lines {
-    // The length of dots.
+    // The length of dots. This and the two below stay apart: each is wrong in its own way in second/README.md.
     pub fn dots(self, wrong: Option<u8>) -> usize
         ensures right { wrong ≡ None → result ≡ 736 * self.count }
         ensures most { result ≤ MOST_DOTS }

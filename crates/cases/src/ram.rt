@@ -3,6 +3,7 @@ ghost use Rattle.std.specs.Prelude.{◌≤◌};
 
 use crate::head::Case;
 use crate::source::Source;
+use blocks::BlockNumber;
 use nick::RAM_BYTES;
 
 // RAM and the byte after it, which is lent where the length is wrong.
@@ -78,7 +79,9 @@ impl Case {
         edit_blocks(self.head.f, ram);
         if self.head.k / 32 % 2 == 1 {
             let whole = ram.first_chunk::<RAM_BYTES>().unwrap();
-            self.head.state.scan.block = blocks::block_at(whole, self.head.state.scan.number);
+            let scan = &mut self.head.state.scan;
+            let number = BlockNumber { value: scan.number };
+            scan.block = blocks::block_at(whole, number);
         }
     }
 }

@@ -6,7 +6,8 @@ use crate::head::Case;
 use nick::{Refusal, State};
 use std::io;
 
-// A family of cases: its name and number, how many cases it has, and how many of them a line covers.
+// A family of cases: its name, the number of second/README.md that its cases are seeded with, how many cases it has, and how many of
+// them a line covers.
 #[derive(Clone, Copy, PartialEq, Eq)]
 pub struct Family<'a> {
     pub name: &'a str,
@@ -16,7 +17,7 @@ pub struct Family<'a> {
     ghost covers_some: { 0 < line },
 }
 
-// The digest of a line's cases so far, and how often each refusal was given, 0 for none.
+// The digest of a line's cases so far, and how often each refusal was given, by its number, 0 for none: so the last line has them.
 #[derive(Clone, Copy, PartialEq, Eq)]
 pub struct Report {
     pub digest: Digest,
@@ -79,8 +80,7 @@ pub fn run_family<F: FnMut(Case, &mut Report)>(
         run_case(Case::begin(number, case), &mut report);
         if case % line == line - 1 {
             let from = case - (line - 1);
-            let digest = report.digest;
-            println!(rt; "{name} {from} {case} {digest}")?;
+            println!(rt; "{name} {from} {case} {}", report.digest)?;
             report.digest = Digest::new();
         }
     }

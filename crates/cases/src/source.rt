@@ -52,7 +52,8 @@ impl Source {
         }
     }
 
-    // Draws up to 5,888 bytes, and has these again after them.
+    // Draws up to 5,888 bytes, and has these again after them. By index: of chunks the check does not see that none is longer than what
+    // is drawn.
     pub fn fill_repeated(&mut self, out: &mut [u8]) {
         let drawn = out.len().min(PERIOD);
         self.fill(&mut out[..drawn]);

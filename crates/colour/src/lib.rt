@@ -1,6 +1,8 @@
 // From display byte to colour: pixels, alternate colours, the palette, external colour.
 #![tactic(auto)]
 
+mod line;
+
 ghost use Rattle.std.specs.Prelude.{◌≡◌, ◌&&◌, ◌/◌, ◌%◌, ◌<◌, ◌≤◌};
 ghost use Rattle.lists.specs.Number.{number};
 ghost use Rattle.nick.specs.Numbers.{bit, is_set};
@@ -17,6 +19,7 @@ ghost use Rattle.colour.specs.Cell.{
 };
 
 use blocks::{ColourMode, colour_mode};
+pub use line::LineColours;
 use nick::{Block, Pixel, Registers};
 
 // One display byte ready to be shown: the colour mode, the byte, and in two colours the palette numbers of a clear and of a
@@ -29,7 +32,8 @@ pub struct Cell {
     pub high: u8,
 }
 
-// Bit k of a byte, as 0 or 1.
+// Bit k of a byte, as 0 or 1: a number, since weights multiply it. A bit of a fixed place that is only asked about is tested where it
+// is read.
 pub fn bit_of(byte: u8, k: u8) -> u8
     requires { k < 8 }
     ensures { result ≡ bit k byte }
@@ -61,7 +65,7 @@ pub fn sixteen_index(byte: u8, k: u8) -> u8
     first + 2 * second + 4 * third + 8 * fourth
 }
 
-// The pixel at an eighth of the display byte, counted from the left.
+// The pixel at an eighth of the display byte, counted from the left: below 8 by a clause, since a type would be made of it at each dot.
 #[tactic(auto, unfolding(crate::specs::Cell::cell_pixel))]
 pub fn pixel_at(cell: Cell, at: u8) -> Pixel
     requires { at < 8 }
@@ -76,7 +80,7 @@ pub fn pixel_at(cell: Cell, at: u8) -> Pixel
     }
 }
 
-// 1 where bit k of a margin byte and bit j of another byte are set, else 0.
+// 1 where bit k of a margin byte and bit j of another byte are set, else 0: a number, since it is weighed.
 fn both_set(margin: u8, k: u8, byte: u8, j: u8) -> u8
     requires k_bound { k < 8 }
     requires j_bound { j < 8 }

@@ -23,7 +23,8 @@ const STEPPED: [u8; 8] = [11, 48, 85, 122, 159, 196, 233, 14];
 const FALLING: [u8; 8] = [255, 254, 253, 252, 251, 250, 249, 248];
 
 // A video mode: how many dots an eighth of a byte has; the attributes or codes that stand beside a display byte, where it has none
-// one that nothing reads; and the cell of a block, an attribute or code, and a display byte.
+// one that nothing reads; and the cell of a block, an attribute or code, and a display byte. That the closure may be called is a clause
+// of each function: a ghost field over it is not proved.
 #[derive(Drop)]
 struct Mode<'a, F> {
     dots: u8,
@@ -35,7 +36,7 @@ struct Mode<'a, F> {
 fn biased(fixbias: u8) -> Registers {
     Registers {
         fixbias,
-        ..nick::fresh().registers
+        ..Registers::default()
     }
 }
 
@@ -43,11 +44,11 @@ fn biased(fixbias: u8) -> Registers {
 fn block_with(col: [u8; 8]) -> Block {
     Block {
         col,
-        ..nick::fresh().scan.block
+        ..Block::default()
     }
 }
 
-// A block of this colour mode, with two alternate bits each of LM and RM.
+// A block of this colour mode, with two alternate bits each of LM and RM. By the mode's number, which the lines name.
 fn block_in(colours: u8, bits: u8) -> Block
     requires colours_bound { colours < 4 }
     requires bits_bound { bits < 16 }
@@ -56,7 +57,7 @@ fn block_in(colours: u8, bits: u8) -> Block
         mb: 32 * colours,
         lm: 64 * (bits / 4),
         rm: 64 * (bits % 4),
-        ..nick::fresh().scan.block
+        ..Block::default()
     }
 }
 
@@ -121,20 +122,13 @@ fn mode_digest<F: Fn(Block, u8, u8) -> Cell>(mode: &Mode<'_, F>, colours: u8) ->
     digest
 }
 
-// Takes in the sixteen palette colours.
-fn digest_palette(digest: &mut Digest, registers: Registers, block: Block) {
-    for n in 0..16 {
-        digest.byte(colour::palette_colour(registers, block, n));
-    }
-}
-
 // The digest of the palette at every FIXBIAS, over both sets of columns.
 fn palettes_digest() -> Digest {
     let mut digest = Digest::new();
     for fixbias in BIASES {
         let registers = biased(fixbias);
-        digest_palette(&mut digest, registers, block_with(STEPPED));
-        digest_palette(&mut digest, registers, block_with(FALLING));
+        digest.bytes(&colour::palette(registers, block_with(STEPPED)));
+        digest.bytes(&colour::palette(registers, block_with(FALLING)));
     }
     digest
 }

@@ -35,16 +35,14 @@ first_back None = refl
 first_back (Some place) = refl
 
 abbrev differences_from : Found → Differences
-differences_from f = record { count = f.count; first = first_from f.first; red = f.red; green = f.green; blue = f.blue }
+differences_from f = record {
+  count = f.count;
+  first = first_from f.first;
+  ranges = record { red = f.red; green = f.green; blue = f.blue };
+}
 
 differences_back : (d : Differences) → differences_from (found_by d) ≡ d
-differences_back d = λ i. record {
-  count = d.count;
-  first = first_back d.first i;
-  red = d.red;
-  green = d.green;
-  blue = d.blue;
-}
+differences_back d = λ i. record { count = d.count; first = first_back d.first i; ranges = d.ranges }
 
 abbrev told_of : Told → Answered → Told
 told_of other (refused t) = t

@@ -31,6 +31,7 @@ ends :
     (range : Range) (more : List ℤ)
     → fold widened range more
     ≡ record { smallest = foldl lesser range.smallest more; largest = foldl greater range.largest more }
+unfolding widened
 ends range [] = refl
 ends range (next ∷ more) = ends (widened range next) more
 
@@ -40,6 +41,7 @@ either false z = refl
 
 -- the first difference may be taken in again
 again : (first : ℤ) (more : List ℤ) → fold widened (range_at first) (first ∷ more) ≡ range_of (first ∷ more)
+unfolding widened
 again first more = rw (either (lt_z first first) first) (ends (range_at first) more)
 
 pub ranged :

@@ -29,9 +29,9 @@ abbrev pub found_by : Differences → Found
 found_by d = record {
   count = d.count;
   first = place_of d.first;
-  red = d.red;
-  green = d.green;
-  blue = d.blue;
+  red = d.ranges.red;
+  green = d.ranges.green;
+  blue = d.ranges.blue;
 }
 
 abbrev pub answered : Result Differences Refused → Answered

@@ -10,7 +10,7 @@ abbrev pub range_at : ℤ → Range
 range_at first = record { smallest = first; largest = first }
 
 -- a range with one difference more
-abbrev pub widened : Range → ℤ → Range
+unfoldable pub widened : Range → ℤ → Range
 widened range next = record { smallest = lesser range.smallest next; largest = greater range.largest next }
 
 -- the ranges of one dot

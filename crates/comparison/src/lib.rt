@@ -3,17 +3,18 @@
 #![tactic(auto)]
 
 mod dots;
+mod pair;
 mod ranges;
 mod table;
 
-ghost use Rattle.std.specs.Prelude.{◌≡◌, ◌<◌, ◌≤◌, length};
+ghost use Rattle.std.specs.Prelude.{◌≡◌};
 ghost use Rattle.std.specs.List.{zip};
 ghost use Rattle.comparison.specs.Comparison.{found_in, comparison};
 ghost use Rattle.comparison.specs.Answers.{found_by, answered};
 
-use dots::{count_differing, first_differing};
 use nick::Refusal;
-use ranges::ranges_of;
+use pair::Pair;
+pub use ranges::Ranges;
 use table::check;
 
 // A capture or a frame: its dots, and its records.
@@ -30,7 +31,7 @@ pub enum Named {
     Frame,
 }
 
-// Why a comparison is refused, and the side at fault where the refusal names one.
+// Why a comparison is refused, and the side at fault where the refusal names one: the pair that the rules call `Told`.
 #[derive(Clone, Copy, PartialEq, Eq)]
 pub struct Refused {
     pub refusal: Refusal,
@@ -64,32 +65,30 @@ pub struct Range {
 pub struct Differences {
     pub count: u32,
     pub first: Option<Place>,
-    pub red: Range,
-    pub green: Range,
-    pub blue: Range,
+    pub ranges: Ranges,
 }
 
-// Compares the dots of two buffers of one length.
+// Compares the dots of two sides.
 #[tactic(auto, using(crate::proofs::Differing::count_is), unfolding(crate::specs::Comparison::found_in))]
-fn compare_dots(capture: &[u8], frame: &[u8]) -> Differences
-    requires { (0 < length capture.now) × (length capture.now ≤ 753664) × (length frame.now ≡ length capture.now) }
-    ensures { found_by result ≡ found_in (zip capture.now frame.now) }
+fn compare_dots(pair: Pair<'_>) -> Differences
+    ensures { found_by result ≡ found_in (zip pair.entry.capture.now pair.entry.frame.now) }
 {
-    let ranges = ranges_of(capture, frame);
     Differences {
-        count: count_differing(capture, frame),
-        first: first_differing(capture, frame),
-        red: ranges.red,
-        green: ranges.green,
-        blue: ranges.blue,
+        count: pair.count_differing(),
+        first: pair.first_differing(),
+        ranges: pair.ranges(),
     }
 }
 
-// Compares a capture with a frame of the same height, or refuses.
+// Compares a capture with a frame of the same height, or refuses. The height stands apart, as in the rules, since it may be that of
+// neither side.
 #[tactic(auto, using(crate::proofs::RefusalTable::comparable), unfolding(crate::specs::Comparison::comparison))]
 pub fn compare(height: usize, capture: Side<'_>, frame: Side<'_>) -> Result<Differences, Refused>
     ensures { answered result ≡ comparison height capture.entry.dots.now capture.entry.records.now frame.entry.dots.now frame.entry.records.now }
 {
     check(height, capture, frame)?;
-    Ok(compare_dots(capture.dots, frame.dots))
+    Ok(compare_dots(Pair {
+        capture: capture.dots,
+        frame: frame.dots,
+    }))
 }

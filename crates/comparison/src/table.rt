@@ -8,7 +8,7 @@ use crate::{Named, Refused, Side};
 use nick::{RECORD_BYTES, Refusal};
 use refusals::{is_bad_height, is_bad_length, is_stamped};
 
-// A refusal that names the side at fault, if one is.
+// A refusal that names the side at fault, if one is: by two tests, as the rules' `of_side` takes them.
 fn of_side(refusal: Refusal, in_capture: bool, in_frame: bool) -> Result<(), Refused>
     ensures { told_in result ≡ of_side (number_of refusal) in_capture in_frame (told 0 no_side) }
 {
@@ -34,19 +34,17 @@ pub fn check(height: usize, capture: Side<'_>, frame: Side<'_>) -> Result<(), Re
             side: None,
         });
     }
-    of_side(
-        Refusal::DotsLength,
-        is_bad_length(capture.dots.len(), 736, height),
-        is_bad_length(frame.dots.len(), 736, height),
-    )?;
+    let bad_dots = |side: Side<'_>| is_bad_length(side.dots.len(), 736, height);
+    of_side(Refusal::DotsLength, bad_dots(capture), bad_dots(frame))?;
+    let bad_records = |side: Side<'_>| is_bad_length(side.records.len(), RECORD_BYTES, height);
     of_side(
         Refusal::RecordsLength,
-        is_bad_length(capture.records.len(), RECORD_BYTES, height),
-        is_bad_length(frame.records.len(), RECORD_BYTES, height),
+        bad_records(capture),
+        bad_records(frame),
     )?;
     of_side(
         Refusal::StampedRecord,
-        is_stamped(capture.records, height),
-        is_stamped(frame.records, height),
+        is_stamped(capture.records),
+        is_stamped(frame.records),
     )
 }

@@ -12,9 +12,11 @@ ghost use Rattle.direct.specs.DotFromBytes.{cell_from, eighth_of, byte_colour, s
 
 use blocks::{VideoMode, video_mode};
 use colour::Cell;
+use fetch::SlotDot;
 use nick::{Answer, Block, Ram, Refusal, Registers, Scan, Sources, State};
 
-// The display byte of a dot made ready, from the bytes that the dot comes from; `second` counts in ATTR and the character modes.
+// The display byte of a dot made ready, from the bytes that the dot comes from; `second` counts in ATTR and the character modes. fetch
+// makes the same cells as it reads: with one function for both painting was slower (docs/DECISIONS.md 16).
 fn cell_from(block: Block, first: u8, second: u8) -> Cell
     ensures { result ≡ cell_from (mode_of block) block first second }
 {
@@ -25,57 +27,54 @@ fn cell_from(block: Block, first: u8, second: u8) -> Cell
     }
 }
 
-// Which eighth of its display byte dot `j` of a slot shows: in PIXEL a byte has eight dots, else sixteen.
-fn eighth_of(block: Block, j: usize) -> u8
-    requires { j < 16 }
-    ensures { (result ≡ eighth_of (mode_of block) j) × (result < 8) }
+// Which eighth of its display byte a dot shows: in PIXEL a byte has eight dots, else sixteen.
+fn eighth_of(block: Block, dot: SlotDot) -> u8
+    ensures { (result ≡ eighth_of (mode_of block) dot.place) × (result < 8) }
 {
     match video_mode(block) {
-        VideoMode::Pixel => (j % 8) as u8,
-        _ => (j / 2) as u8,
+        VideoMode::Pixel => dot.place % 8,
+        _ => dot.place / 2,
     }
 }
 
-// The colour of dot `j` of a slot, from the bytes that it comes from.
+// The colour of a dot, from the bytes that it comes from.
 #[tactic(auto, using(colour::proofs::Cells::cell_below), unfolding(crate::specs::DotFromBytes::byte_colour))]
 fn byte_colour(
     registers: Registers,
     block: Block,
     first: u8,
     second: u8,
-    j: usize,
+    dot: SlotDot,
     external: u8,
 ) -> u8
-    requires { j < 16 }
-    ensures { result ≡ byte_colour registers block first second j external }
+    ensures { result ≡ byte_colour registers block first second dot.place external }
 {
     let cell = cell_from(block, first, second);
-    let pixel = colour::pixel_at(cell, eighth_of(block, j));
+    let pixel = colour::pixel_at(cell, eighth_of(block, dot));
     colour::mixed_colour(registers, block, pixel, external)
 }
 
-// The colour of dot `j` of a slot that comes from these addresses.
+// The colour of a dot that comes from these addresses.
 fn sourced_colour(
     registers: Registers,
     ram: &Ram,
     block: Block,
     sources: Sources,
-    j: usize,
+    dot: SlotDot,
     external: u8,
 ) -> u8
-    requires { j < 16 }
-    ensures { result ≡ sourced_colour registers block (map (byte_at ram.now) (addresses_of sources)) j external }
+    ensures { result ≡ sourced_colour registers block (map (byte_at ram.now) (addresses_of sources)) dot.place external }
 {
     match sources {
         Sources::Nothing => fetch::unfetched(registers, block),
-        Sources::One(a) => byte_colour(registers, block, ram[a as usize], 0, j, external),
+        Sources::One(a) => byte_colour(registers, block, ram[a as usize], 0, dot, external),
         Sources::Two(a, b) => {
             byte_colour(
                 registers,
                 block,
                 ram[a as usize],
                 ram[b as usize],
-                j,
+                dot,
                 external,
             )
         }
@@ -89,10 +88,13 @@ fn begun_dot(registers: Registers, ram: &Ram, scan: Scan, dot: usize, external: 
     ensures { answered (Ok result) ≡ dot_answer registers ram.now scan dot external }
 {
     let block = scan.block;
-    let slot = dot / 16;
-    let at = walk::pointers_at(block, scan.at, slot as u16);
-    let sources = fetch::sources_at(ram, block, slot, at, dot % 16);
-    let colour = sourced_colour(registers, ram, block, sources, dot % 16, external);
+    let dot = SlotDot {
+        slot: (dot / 16) as u8,
+        place: (dot % 16) as u8,
+    };
+    let at = walk::pointers_at(block, scan.at, dot.slot);
+    let sources = fetch::sources_at(ram, block, at, dot);
+    let colour = sourced_colour(registers, ram, block, sources, dot, external);
     Answer { colour, sources }
 }
 

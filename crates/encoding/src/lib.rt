@@ -1,10 +1,9 @@
 // The state as 32 bytes: specs/Encoding.antt has the places.
 #![tactic(auto)]
 
-ghost use Rattle.std.specs.Prelude.{◌≡◌};
+ghost use Rattle.std.specs.Prelude.{◌≡◌, ◌/◌, ◌%◌};
 ghost use Rattle.encoding.specs.Encoding.{encoded, flags_of, scan_of, state_of};
 
-use lists::{bit, high, low, word};
 use nick::{Pointers, Registers, Scan, State};
 
 // How many bytes a state has.
@@ -19,12 +18,12 @@ fn decode_scan(bytes: &[u8; STATE_BYTES]) -> Scan
     Scan {
         pending: bytes[4] % 2 == 1,
         block: blocks::decode(&halves[1]),
-        number: word(bytes[6], bytes[7]),
+        number: u16::from_le_bytes([bytes[6], bytes[7]]),
         at: Pointers {
-            ld1: word(bytes[8], bytes[9]),
-            ld2: word(bytes[10], bytes[11]),
+            ld1: u16::from_le_bytes([bytes[8], bytes[9]]),
+            ld2: u16::from_le_bytes([bytes[10], bytes[11]]),
         },
-        left: word(bytes[12], bytes[13]),
+        left: u16::from_le_bytes([bytes[12], bytes[13]]),
     }
 }
 
@@ -51,16 +50,35 @@ pub fn decode_state(bytes: &[u8; STATE_BYTES]) -> State
 fn flags(state: State) -> u8
     ensures { result ≡ flags_of state }
 {
-    bit(state.scan.pending) + 2 * bit(state.virq) + 4 * bit(state.sync)
+    u8::from(state.scan.pending) + 2 * u8::from(state.virq) + 4 * u8::from(state.sync)
 }
 
-// The bytes of a state.
+// The low byte of a pair. With `to_le_bytes` six times in `state_bytes` the check does not find that these are the state's bytes.
+fn low(pair: u16) -> u8
+    ensures { result ≡ pair % 256 }
+{
+    let [low, _] = pair.to_le_bytes();
+    low
+}
+
+// The high byte of a pair.
+fn high(pair: u16) -> u8
+    ensures { result ≡ pair / 256 }
+{
+    let [_, high] = pair.to_le_bytes();
+    high
+}
+
+// The bytes of a state, each by itself: std has nothing that joins arrays into one.
 #[tactic(auto, unfolding(crate::specs::Encoding::encoded))]
 pub fn state_bytes(state: State) -> [u8; STATE_BYTES]
     ensures { result ≡ encoded state }
 {
-    let registers = state.registers;
-    let scan = state.scan;
+    let State {
+        registers,
+        scan,
+        ..
+    } = state;
     let block = scan.block;
     [
         registers.fixbias,
@@ -96,11 +114,4 @@ pub fn state_bytes(state: State) -> [u8; STATE_BYTES]
         block.col[6],
         block.col[7],
     ]
-}
-
-// Writes a state as 32 bytes.
-pub fn encode_state(state: State, out: &mut [u8; STATE_BYTES])
-    ensures { out.new ≡ encoded state }
-{
-    *out = state_bytes(state);
 }

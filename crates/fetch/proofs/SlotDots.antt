@@ -63,7 +63,8 @@ module _ (g : Registers) (ram : List ℕ) (b : Block) (p : Pointers) where
       let byte = byte_at ram p.ld1 in
       ap (λ (q : Pixel). mixed_colour g b q e) (graphics_pixel_lem b byte (j / 2) ∙ ap (graphics_pixel cs b byte) (sym (sharing_halves cs j)))
 
-  -- the pointers after a slot, and how many bytes it fetches, at most two
+-- the pointers after a slot, and how many bytes it fetches, at most two
+module _ (ram : List ℕ) (b : Block) (p : Pointers) where
   pub moved : (active : Bool) (m : Mode) → (fetched_at active m ram b p).at ≡ cond active (slot_pointers m p) p
   moved false m = refl
   moved true VSYNC = refl

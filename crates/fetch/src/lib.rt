@@ -1,9 +1,10 @@
 // What a slot fetches: the cells that it shows, the pointers after it, how many bytes; and what each of its dots comes from.
 #![tactic(auto)]
 
+mod dot;
 mod font;
 
-ghost use Rattle.std.specs.Prelude.{◌≡◌, ◌<◌, [], true, false, MatchOption, if◌then◌else◌};
+ghost use Rattle.std.specs.Prelude.{◌≡◌, [], true, false, MatchOption, if◌then◌else◌};
 ghost use Rattle.nick.specs.Numbers.{byte_at};
 ghost use Rattle.nick.specs.Slots.{PIXEL as pixel_mode, ATTR as attribute_mode, CH, LPIXEL, mode_of, slot_pointers, dot_addresses};
 ghost use Rattle.nick.specs.Direct.{addresses_of};
@@ -15,9 +16,10 @@ ghost use Rattle.fetch.specs.Fetches.{one_cell, fetched_in, fetched_at};
 
 use blocks::{CodeWidth, VideoMode, video_mode};
 use colour::Cell;
+pub use dot::SlotDot;
 use nick::{Block, Pointers, Ram, Registers, Sources};
 
-// The cells that a slot shows: one over all sixteen dots, or two of eight dots each.
+// The cells that a slot shows: one over all sixteen dots, or two of eight dots each. No Option: there may be two.
 #[derive(Clone, Copy, PartialEq, Eq)]
 pub enum Cells {
     Nothing,
@@ -43,10 +45,7 @@ fn pixel(ram: &Ram, block: Block, at: Pointers) -> Fetched
     let second = colour::graphics_cell(block, ram[b as usize]);
     Fetched {
         cells: Cells::Halves(first, second),
-        at: Pointers {
-            ld1: a.wrapping_add(2),
-            ..at
-        },
+        at: at.up(2, 0),
         count: 2,
     }
 }
@@ -55,15 +54,10 @@ fn pixel(ram: &Ram, block: Block, at: Pointers) -> Fetched
 fn attribute(ram: &Ram, at: Pointers) -> Fetched
     ensures { result ≡ one_cell (attribute_cell (byte_at ram.now at.ld1) (byte_at ram.now at.ld2)) (slot_pointers attribute_mode at) 2 }
 {
-    let attribute = at.ld1;
-    let display = at.ld2;
-    let cell = colour::attribute_cell(ram[attribute as usize], ram[display as usize]);
+    let cell = colour::attribute_cell(ram[at.ld1 as usize], ram[at.ld2 as usize]);
     Fetched {
         cells: Cells::Whole(cell),
-        at: Pointers {
-            ld1: attribute.wrapping_add(1),
-            ld2: display.wrapping_add(1),
-        },
+        at: at.up(1, 1),
         count: 2,
     }
 }
@@ -72,16 +66,12 @@ fn attribute(ram: &Ram, at: Pointers) -> Fetched
 fn character(ram: &Ram, block: Block, width: CodeWidth, at: Pointers) -> Fetched
     ensures { result ≡ fetched_in (CH (bits_in width)) ram.now block at }
 {
-    let a = at.ld1;
-    let code = ram[a as usize];
+    let code = ram[at.ld1 as usize];
     let display = font::font_address(width, at.ld2, code);
     let cell = colour::character_cell(block, code, ram[display as usize]);
     Fetched {
         cells: Cells::Whole(cell),
-        at: Pointers {
-            ld1: a.wrapping_add(1),
-            ..at
-        },
+        at: at.up(1, 0),
         count: 2,
     }
 }
@@ -90,36 +80,26 @@ fn character(ram: &Ram, block: Block, width: CodeWidth, at: Pointers) -> Fetched
 fn lpixel(ram: &Ram, block: Block, at: Pointers) -> Fetched
     ensures { result ≡ fetched_in LPIXEL ram.now block at }
 {
-    let a = at.ld1;
-    let cell = colour::graphics_cell(block, ram[a as usize]);
+    let cell = colour::graphics_cell(block, ram[at.ld1 as usize]);
     Fetched {
         cells: Cells::Whole(cell),
-        at: Pointers {
-            ld1: a.wrapping_add(1),
-            ..at
-        },
+        at: at.up(1, 0),
         count: 1,
     }
 }
 
-// The video mode in which dot slot `n` fetches: none outside the margins.
-fn active_mode(block: Block, n: usize) -> Option<VideoMode>
-    requires { n < 46 }
-    ensures { MatchOption result (active_at block n ≡ false) (λ mode. (active_at block n ≡ true) × (mode_named mode ≡ mode_of block)) }
+// The video mode in which a dot slot fetches: none outside the margins.
+fn active_mode(block: Block, slot: u8) -> Option<VideoMode>
+    ensures { MatchOption result (active_at block slot ≡ false) (λ mode. (active_at block slot ≡ true) × (mode_named mode ≡ mode_of block)) }
 {
-    if blocks::is_active(block, n as u16) {
-        Some(video_mode(block))
-    } else {
-        None
-    }
+    blocks::is_active(block, slot).then(|| video_mode(block))
 }
 
-// What dot slot `n` fetches, active or not.
-pub fn fetch_slot(ram: &Ram, block: Block, n: usize, at: Pointers) -> Fetched
-    requires { n < 46 }
-    ensures { result ≡ fetched_at (active_at block n) (mode_of block) ram.now block at }
+// What a dot slot fetches, active or not.
+pub fn fetch_slot(ram: &Ram, block: Block, slot: u8, at: Pointers) -> Fetched
+    ensures { result ≡ fetched_at (active_at block slot) (mode_of block) ram.now block at }
 {
-    match active_mode(block, n) {
+    match active_mode(block, slot) {
         None | Some(VideoMode::Vsync | VideoMode::Unused) => Fetched {
             cells: Cells::Nothing,
             at,
@@ -142,15 +122,14 @@ pub fn unfetched(registers: Registers, block: Block) -> u8
     }
 }
 
-// The addresses that dot `j` of dot slot `n` comes from, active or not. `Fetched` does not hold them: painting hands it on at each
-// slot, and needs none.
-pub fn sources_at(ram: &Ram, block: Block, n: usize, at: Pointers, j: usize) -> Sources
-    requires { (n < 46) × (j < 16) }
-    ensures { addresses_of result ≡ (if active_at block n then dot_addresses (mode_of block) ram.now at j else []) }
+// The addresses that a dot comes from, its slot active or not. `Fetched` does not hold them: painting hands it on at each slot, and
+// needs none.
+pub fn sources_at(ram: &Ram, block: Block, at: Pointers, dot: SlotDot) -> Sources
+    ensures { addresses_of result ≡ (if active_at block dot.slot then dot_addresses (mode_of block) ram.now at dot.place else []) }
 {
-    match active_mode(block, n) {
+    match active_mode(block, dot.slot) {
         None | Some(VideoMode::Vsync | VideoMode::Unused) => Sources::Nothing,
-        Some(VideoMode::Pixel) if j < 8 => Sources::One(at.ld1),
+        Some(VideoMode::Pixel) if dot.place < 8 => Sources::One(at.ld1),
         Some(VideoMode::Pixel) => Sources::One(at.ld1.wrapping_add(1)),
         Some(VideoMode::Attr) => Sources::Two(at.ld1, at.ld2),
         Some(VideoMode::Character(width)) => {

@@ -1,3 +1,4 @@
+pub mod Buffers
 pub mod Outputs
 pub mod Reading
 pub mod Same

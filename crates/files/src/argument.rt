@@ -7,16 +7,26 @@ use std::io::{Read, Write};
 use std::rt::Files;
 use std::{fs, io};
 
-// The room for an argument: a path has fewer bytes. A function that makes it is not to be part of its caller, so that little stack is
-// needed before RECORDS is stamped.
+// The room for an argument: a path has fewer bytes.
 pub const PATH_MAX: usize = 4096;
 
-// Argument i, at the start of the buffer; empty where it is absent or longer than the buffer.
-pub fn argument_in<'a>(rt: &impl Env, i: usize, buf: &'a mut [u8; PATH_MAX]) -> &'a [u8]
+// Argument i, at the start of the buffer; empty where it is absent or longer than the buffer, so that no argument counts as its first
+// part (docs/DECISIONS.md 60).
+fn argument_in<'a>(rt: &impl Env, i: usize, buf: &'a mut [u8; PATH_MAX]) -> &'a [u8]
     ensures { length result.now ≤ 4096 }
 {
     let length = rt.arg(i, buf).unwrap_or(0);
     &buf[..length]
+}
+
+// What is made of argument i, in room of its own. It is not to be part of its caller, so that little stack is needed before RECORDS
+// is stamped.
+#[inline(never)]
+pub(crate) fn with_argument<T, F: FnOnce(&[u8]) -> T>(rt: &impl Env, i: usize, make: F) -> T
+    requires { F.IsAlwaysCallable make }
+{
+    let mut room = [0u8; PATH_MAX];
+    make(argument_in(rt, i, &mut room))
 }
 
 // Whether nothing is left to read. A read that fails moves nothing, so after one this read fails too.
@@ -40,7 +50,6 @@ fn read_full(file: &mut impl Read, buf: &mut [u8]) -> usize
 }
 
 // Opens the file that argument i names, where that can be done. A name that is not UTF-8 opens none.
-#[inline(never)]
 fn open_by<R: Files + Env, F: FnOnce(&str) -> io::Result<R::File>>(
     rt: &R,
     i: usize,
@@ -48,9 +57,7 @@ fn open_by<R: Files + Env, F: FnOnce(&str) -> io::Result<R::File>>(
 ) -> Option<R::File>
     requires { F.IsAlwaysCallable open_file }
 {
-    let mut path = [0u8; PATH_MAX];
-    let name = str::from_utf8(argument_in(rt, i, &mut path)).ok()?;
-    open_file(name).ok()
+    with_argument(rt, i, |path| open_file(str::from_utf8(path).ok()?).ok())
 }
 
 // Reads the file that argument i names until the buffer is full or the file ends, where that can be done, and answers what was read.
@@ -67,12 +74,9 @@ pub fn read_argument<'a>(rt: &(impl Files + Env), i: usize, buf: &'a mut [u8]) -
 
 // How many arguments there are, the program's name among them.
 pub fn argument_count(rt: &impl Env) -> usize {
-    for i in 0..usize::MAX {
-        if let Err(FillError::NotPresent) = rt.arg(i, &mut [0u8; 1]) {
-            return i;
-        }
-    }
-    usize::MAX
+    (0..usize::MAX)
+        .find(|i| matches!(rt.arg(*i, &mut [0u8; 1]), Err(FillError::NotPresent)))
+        .unwrap_or(usize::MAX)
 }
 
 // Whether argument i is there.
@@ -119,16 +123,15 @@ pub fn write_argument(rt: &(impl Files + Env), i: usize, bytes: &[u8]) -> Result
 }
 
 // Whether two arguments are the same text.
-#[inline(never)]
 pub fn is_same_argument(rt: &impl Env, i: usize, j: usize) -> bool {
-    let mut first = [0u8; PATH_MAX];
-    let mut second = [0u8; PATH_MAX];
-    argument_in(rt, i, &mut first) == argument_in(rt, j, &mut second)
+    with_argument(
+        rt,
+        i,
+        |first| with_argument(rt, j, |second| first == second),
+    )
 }
 
 // The number that argument i is.
-#[inline(never)]
 pub fn number_argument(rt: &impl Env, i: usize) -> Option<usize> {
-    let mut digits = [0u8; PATH_MAX];
-    text::number_of(argument_in(rt, i, &mut digits))
+    with_argument(rt, i, |digits| text::number_of(digits))
 }

@@ -7,10 +7,10 @@ use nick::RAM_BYTES;
 use std::env::Env;
 use std::rt::Files;
 
-// The arguments that every program begins with.
+// The arguments that a program of the chip begins with: RAM, and what is done to the chip, register writes or a script.
 pub const RAM: usize = 1;
 
-pub const WRITES: usize = 2;
+pub const COMMANDS: usize = 2;
 
 // The room for RAM and for WRITES: one byte more than is allowed, so that a longer file shows.
 pub const RAM_ROOM: usize = RAM_BYTES + 1;
@@ -43,7 +43,7 @@ pub fn read_inputs<'a>(
     ensures lengths { IfOk result (λ read. (length read.ram.now ≤ length ram.old) × (length read.writes.now ≤ length writes.old)) }
     ensures pairs { IfOk result (λ read. length read.writes.now % 2 ≡ 0) }
 {
-    let (ram, writes) = read_pair(rt, RAM, WRITES, ram, writes)?;
+    let (ram, writes) = read_pair(rt, RAM, COMMANDS, ram, writes)?;
     let writes = paired(writes)?;
     Ok(Inputs { ram, writes })
 }

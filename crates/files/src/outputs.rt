@@ -5,6 +5,7 @@ ghost use Rattle.files.specs.Outputs.{is_clash, is_input, lines_stamped, stamps}
 
 use crate::argument::{argument_count, is_given, write_argument, write_repeated};
 use crate::error::Error;
+use crate::inputs::{COMMANDS, RAM};
 use crate::same::is_same_file;
 use nick::RECORD_BYTES;
 use std::env::Env;
@@ -15,18 +16,15 @@ pub const DOTS_MOST: usize = 736 * 1024;
 
 pub const RECORDS_MOST: usize = RECORD_BYTES * 1024;
 
-// Which arguments name the files: RAM; what is done to the chip, register writes or a script; the outputs; and EXTERNAL, which is the
-// last and may be absent.
+// Which arguments name the outputs, and EXTERNAL, which is the last and may be absent.
 #[derive(Clone, Copy, PartialEq, Eq)]
 pub struct Places {
-    pub ram: usize,
-    pub commands: usize,
     pub dots: usize,
     pub records: usize,
     pub external: usize,
 }
 
-// Which inputs are the file that an output names.
+// Which inputs are the file that an output names: flags, so that `is_clash` can be promised without files.
 #[derive(Clone, Copy, PartialEq, Eq)]
 struct Named {
     ram: bool,
@@ -41,13 +39,6 @@ fn lines_stamped(asked: Option<usize>) -> usize
     asked.unwrap_or(1).clamp(1, 65536)
 }
 
-// Stamps records.
-fn stamp(records: &mut [u8])
-    ensures { records.new ≡ stamps records.old }
-{
-    records.fill(255);
-}
-
 // Writes RECORDS with the lines asked for stamped, line by line, so that little room is needed.
 pub fn stamp_lines(
     rt: &(impl Files + Env),
@@ -55,15 +46,15 @@ pub fn stamp_lines(
     asked: Option<usize>,
 ) -> Result<(), Error> {
     let mut record = [0u8; RECORD_BYTES];
-    stamp(&mut record);
+    refusals::stamp(&mut record);
     write_repeated(rt, places.records, &record, lines_stamped(asked))
 }
 
 // Compares an output with each input.
 fn inputs_named(rt: &(impl Files + Env), places: Places, output: usize) -> Named {
     Named {
-        ram: is_same_file(rt, places.ram, output),
-        commands: is_same_file(rt, places.commands, output),
+        ram: is_same_file(rt, RAM, output),
+        commands: is_same_file(rt, COMMANDS, output),
         external: is_given(rt, places.external) && is_same_file(rt, places.external, output),
     }
 }
@@ -106,7 +97,7 @@ fn write_records(rt: &(impl Files + Env), places: Places, records: &mut [u8]) ->
 {
     let written = write_argument(rt, places.records, records);
     if written.is_err() {
-        stamp(records);
+        refusals::stamp(records);
         let _ = write_argument(rt, places.records, records);
     }
     written

@@ -1,5 +1,5 @@
 // The lines that programs print. Where printing fails there is nowhere to tell it.
-use crate::argument::{PATH_MAX, argument_in};
+use crate::argument::with_argument;
 use crate::error::Error;
 use nick::{Levels, Refusal};
 use std::env::Env;
@@ -22,22 +22,23 @@ pub fn print_colour(rt: &impl Print, colour: u8) {
 }
 
 // Prints words and argument i, which may be no text.
-#[inline(never)]
 fn print_argument(rt: &(impl Env + Print), words: &str, i: usize) {
-    let mut path = [0u8; PATH_MAX];
-    let _ = rt.print(words);
-    let _ = rt.write_all(argument_in(rt, i, &mut path));
-    let _ = rt.println("");
+    with_argument(rt, i, |path| {
+        let _ = rt.print(words);
+        let _ = rt.write_all(path);
+        let _ = rt.println("");
+    })
 }
 
-// Prints why the program does not do what it is for.
-pub fn print_error(rt: &(impl Env + Print), error: Error, usage: &str) {
-    match error {
-        Error::Usage => {
+// Prints why the program did not do what it is for, where it did not.
+pub fn report(rt: &(impl Env + Print), outcome: Result<(), Error>, usage: &str) {
+    match outcome {
+        Ok(()) => {}
+        Err(Error::Usage) => {
             let _ = rt.println(usage);
         }
-        Error::Unread(i) => print_argument(rt, "cannot read ", i),
-        Error::Unwritten(i) => print_argument(rt, "cannot write ", i),
-        Error::Refused(refusal) => print_refusal_of(rt, &"", refusal),
+        Err(Error::Unread(i)) => print_argument(rt, "cannot read ", i),
+        Err(Error::Unwritten(i)) => print_argument(rt, "cannot write ", i),
+        Err(Error::Refused(refusal)) => print_refusal_of(rt, &"", refusal),
     }
 }

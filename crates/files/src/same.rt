@@ -2,7 +2,7 @@
 ghost use Rattle.std.specs.Prelude.{◌≡◌};
 ghost use Rattle.files.specs.Same.{is_one};
 
-use crate::argument::{PATH_MAX, argument_in, is_same_argument};
+use crate::argument::{PATH_MAX, is_same_argument, with_argument};
 use std::env::Env;
 use std::fs;
 use std::os::unix::fs::MetadataExt;
@@ -25,14 +25,13 @@ fn file_at(rt: &impl Files, path: &[u8]) -> Option<File> {
 }
 
 // The file that argument i names. An argument that is empty, of 4,096 bytes or more, or not UTF-8 names none.
-#[inline(never)]
 fn file_of(rt: &(impl Files + Env), i: usize) -> Option<File> {
-    let mut path = [0u8; PATH_MAX];
-    let path = argument_in(rt, i, &mut path);
-    if path.is_empty() || path.len() == PATH_MAX {
-        return None;
-    }
-    file_at(rt, path)
+    with_argument(rt, i, |path| {
+        if path.is_empty() || path.len() == PATH_MAX {
+            return None;
+        }
+        file_at(rt, path)
+    })
 }
 
 // Whether two files are one.
@@ -43,11 +42,10 @@ fn is_one(a: Option<File>, b: Option<File>) -> bool
 }
 
 // Whether argument i is a name that is not UTF-8, of which the operating system is not asked.
-#[inline(never)]
 fn is_unknown(rt: &impl Env, i: usize) -> bool {
-    let mut path = [0u8; PATH_MAX];
-    let path = argument_in(rt, i, &mut path);
-    path.len() < PATH_MAX && str::from_utf8(path).is_err()
+    with_argument(rt, i, |path| {
+        path.len() < PATH_MAX && str::from_utf8(path).is_err()
+    })
 }
 
 // Whether two arguments name one file, by the same text or, where the file is there, by two names, links among them. A name that

@@ -5,8 +5,8 @@ ghost use Rattle.files.specs.Writes.{given as Writes·given, written_by};
 
 use nick::{Refusal, State};
 
-// What is given where two calls gave these: of two refusals the one of the smaller number. The numbers are compared as the rule says; a
-// lemma on `min` would have to cite what is generated for the derived order.
+// What is given where two calls gave these: of two refusals the one of the smaller number. With `min` over a derived order the check
+// leaves a goal on that order, with `min_by_key` one on every key.
 #[tactic(auto, unfolding(crate::specs::Writes::given))]
 fn given(a: Result<(), Refusal>, b: Result<(), Refusal>) -> Result<(), Refusal>
     ensures { refusal_in result ≡ Writes·given (refusal_in a) (refusal_in b) }
@@ -19,7 +19,7 @@ fn given(a: Result<(), Refusal>, b: Result<(), Refusal>) -> Result<(), Refusal>
 }
 
 // Applies the writes in order, from the fresh state: the state that they leave, and the smallest refusal of them. An odd byte is left
-// out.
+// out. The state is promised after a refused write too, so it stands beside the Result.
 #[tactic(auto, using(crate::proofs::Pairs::pair_at), unfolding(crate::specs::Writes::written_next))]
 pub fn apply_writes(bytes: &[u8]) -> (State, Result<(), Refusal>)
     ensures state { result.0 ≡ (written_by bytes.now).state }

@@ -42,9 +42,6 @@ module _ (g : Registers) (ram : List ℕ) (c : Scan) (ext : ℕ → ℕ) where
   slots_rows zero = refl
   slots_rows (suc n) = rw (slots_rows n)
 
-  pub length_slots : (n : ℕ) → length (slots_dots g ram c.block n c.at ext) ≡ 16 * n
-  length_slots n = rw (slots_rows n) (length_rows slot_of 16 (length_slot 16 refl) n)
-
   begun_rows : (n : ℕ) → n ≡ 46 → begun_dots g ram c ext ≡ rows slot_of n
   unfolding begun_dots
   begun_rows n e = ap (λ (m : ℕ). slots_dots g ram c.block m c.at ext) (sym e) ∙ slots_rows n

@@ -1,18 +1,19 @@
 // The line of one block.
-ghost use Rattle.std.specs.Prelude.{◌≡◌, ◌<◌};
+ghost use Rattle.std.specs.Prelude.{◌≡◌};
 ghost use Rattle.nick.specs.Listing.{block_line, numbers_after_name};
 ghost use Rattle.text.specs.Decimal.{tabbed};
-ghost use Rattle.text.specs.Writing.{Room, wrote};
+ghost use Rattle.text.specs.Writing.{wrote};
 ghost use Rattle.blocks.specs.Modes.{mode_named, colours_named};
 ghost use Rattle.listing.specs.Modes.{name_of, count_of};
 
 use blocks::{
-    CodeWidth, ColourMode, VideoMode, colour_mode, has_reload, has_vint, has_vres, video_mode,
+    BlockNumber, CodeWidth, ColourMode, VideoMode, colour_mode, has_reload, has_vint, has_vres,
+    video_mode,
 };
 use nick::Block;
 use text::{TAB, Writer};
 
-// The name of a video mode.
+// The name of a video mode. No Display: the writer takes bytes, and counts those past its end.
 #[tactic(auto, unfolding(crate::specs::Modes::name_of))]
 fn name(mode: VideoMode) -> &'static str
     ensures { result.now ≡ name_of (mode_named mode) }
@@ -52,7 +53,6 @@ fn palette(block: Block) -> [usize; 8]
 // The numbers of a block's line that stand after the mode name, the eight colours last.
 #[tactic(auto, using(text::proofs::Writing::writing, crate::proofs::Pieces::numbers_text))]
 fn put_numbers(writer: &mut Writer<'_>, block: Block)
-    requires { Room writer.old (tabbed (numbers_after_name block)) }
     ensures { writer.new ≡ wrote writer.old (tabbed (numbers_after_name block)) }
 {
     writer.put_fields(&[
@@ -69,12 +69,11 @@ fn put_numbers(writer: &mut Writer<'_>, block: Block)
 }
 
 // The line of a block with this number.
-#[tactic(auto, using(text::proofs::Writing::writing, crate::proofs::Pieces::line_text, crate::proofs::Pieces::line_length))]
-pub fn put_block(writer: &mut Writer<'_>, number: u16, block: Block)
-    requires { (number < 4096) × Room writer.old (block_line number block) }
-    ensures { writer.new ≡ wrote writer.old (block_line number block) }
+#[tactic(auto, using(text::proofs::Writing::writing, crate::proofs::Pieces::line_text))]
+pub fn put_block(writer: &mut Writer<'_>, number: BlockNumber, block: Block)
+    ensures { writer.new ≡ wrote writer.old (block_line number.value block) }
 {
-    writer.put_decimal(16 * usize::from(number));
+    writer.put_decimal(number.address());
     writer.put_field(256 - usize::from(block.sc));
     writer.put_byte(TAB);
     writer.put_bytes(name(video_mode(block)).as_bytes());

@@ -14,8 +14,9 @@ const BLOCKS: [[u8; 4]; 4] = [
 
 fn main(rt: HostRuntime) -> io::Result<()> {
     let mut ram = [0u8; RAM_BYTES];
-    for (n, block) in BLOCKS.iter().enumerate() {
-        ram[16 * n..][..4].copy_from_slice(block);
+    let (blocks, _) = ram.as_chunks_mut::<16>();
+    for (place, block) in blocks.iter_mut().zip(&BLOCKS) {
+        place[..4].copy_from_slice(block);
     }
     let mut text = [0u8; 4096];
     if let Ok(length) = listing::list(nick::fresh().registers, &ram, &mut text) {

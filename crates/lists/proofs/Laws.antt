@@ -1,13 +1,13 @@
 -- General laws on lists: whole buffers, parts that are lent in a loop, and lists made from a rule for each place.
-use mathlib.Core.Path.{◌≡◌, refl, sym, ap, ◌∙◌}
+use mathlib.Core.Path.{◌≡◌, refl, sym, ◌∙◌}
 use mathlib.Core.List.{List, [], ◌∷◌, ◌++◌, append-nil, append_assoc}
-use Prim.Native.Nat.{ℕ, zero, suc, ◌+◌, ◌-◌, ◌*◌, ◌≤◌, ◌<◌, min}
-use native.Mathlib.Nat.{add_comm, mul-zero, mul-suc, zero-add, add-zero, add-suc, not-suc-le-zero}
+use Prim.Native.Nat.{ℕ, zero, suc, ◌+◌, ◌*◌, ◌≤◌, ◌<◌}
+use native.Mathlib.Nat.{add_comm, mul-zero, mul-suc, not-suc-le-zero}
 use native.Mathlib.Numerals.{add-one}
 use native.Mathlib.Decide.{dec_lt}
 use native.Mathlib.Omega.{arith}
-use lib.ListN.{length, get_or, take, drop, set, replicate, length-append, length-take, length-drop, drop_of_length-le, replicate-append-replicate, get_or-append}
-use lib.Seq.{take-length, take_at, drop_at, drop-drop, set_at, drop-cons, get_or_at, ext_get_or, sets, sets-eq}
+use lib.ListN.{length, get_or, take, drop, replicate, length-append, drop_of_length-le, replicate-append-replicate, get_or-append}
+use lib.Seq.{take-length, take_at, drop_at, drop-drop, get_or_at, ext_get_or}
 use Rattle.std.specs.Simd.{first_chunks}
 use Rattle.lists.specs.Tab.{tab}
 
@@ -24,19 +24,6 @@ module _ {ℓ} {A : Type ℓ} where
   pub lent : (p d ys : List A) (a k : ℕ) → length p ≡ a → take a (p ++ drop a d) ++ (ys ++ drop k (drop a (p ++ drop a d))) ≡ (p ++ ys) ++ drop (a + k) d
   lent p d ys a k hp =
       rw (take_at p (drop a d) a hp, drop_at p (drop a d) a hp, drop-drop k a d) (sym (append_assoc p ys (drop (a + k) d)))
-
-  -- all places after the front, lent and given back as ys
-  pub lent_end : (p q ys : List A) (a k : ℕ) → length p ≡ a → length q ≤ k → take a (p ++ q) ++ (ys ++ drop k (drop a (p ++ q))) ≡ p ++ ys
-  lent_end p q ys a k hp h = rw (take_at p q a hp, drop_at p q a hp, front_all ys q k h) refl
-
-  -- the length of a part that lies inside
-  pub part_length : (d : List A) (a n : ℕ) → a + n ≤ length d → length (take (a + n - a) (drop a d)) ≡ n
-  part_length d a n h = length-take (a + n - a) (drop a d) ∙ ap (min (a + n - a)) (length-drop a d) ∙ omega arith
-
-  -- one place more is stored
-  pub stored : (p d : List A) (n : ℕ) (x : A) → length p ≡ n → n < length d → set (p ++ drop n d) n x ≡ (p ++ (x ∷ [])) ++ drop (n + 1) d
-  stored p d n x hp h =
-      rw (add-one n, drop-cons d n x h, set_at p (get_or d n x) (drop (suc n) d) x n hp, append_assoc p (x ∷ []) (drop (suc n) d)) refl
 
   -- a list made from a rule: its length, and each place
   pub length_tab : (f : ℕ → A) (n : ℕ) → length (tab f n) ≡ n
@@ -59,35 +46,16 @@ module _ {ℓ} {A : Type ℓ} where
       let e = length_tab (λ i. get_or xs i d) (length xs) in
       ext_get_or d (tab (λ i. get_or xs i d) (length xs)) xs e (λ i h. get_or_tab (λ j. get_or xs j d) (length xs) i d (rw e at h))
 
-  -- as many stores as a list has places make it anew
-  pub stored_all : (xs ys : List A) → length xs ≡ length ys → sets xs 0 ys ≡ ys
-  stored_all xs ys h =
-      sets-eq ys xs 0 (omega arith) ∙ rw (zero-add (length ys)) (front_all ys xs (length ys) (omega arith))
-
 module _ {ℓ} {A : Type ℓ} where
   -- two rules that agree on the places make the same list
   pub tab_same : (f g : ℕ → A) (n : ℕ) → ((i : ℕ) → i < n → f i ≡ g i) → tab f n ≡ tab g n
   tab_same f g zero h = refl
   tab_same f g (suc n) h = rw (tab_same f g n (λ i l. h i (omega arith)), h n (omega arith))
 
-  -- a list in two parts
-  pub tab_append : (f : ℕ → A) (n m : ℕ) → tab f (n + m) ≡ tab f n ++ tab (λ i. f (n + i)) m
-  tab_append f n zero = rw (add-zero n) (sym (append-nil (tab f n)))
-  tab_append f n (suc m) = rw (add-suc n m, tab_append f n m) (append_assoc (tab f n) (tab (λ i. f (n + i)) m) (f (n + m) ∷ []))
-
   -- one value at every place
   pub tab_one : (x : A) (n : ℕ) → tab (λ i. x) n ≡ replicate n x
   tab_one x zero = refl
   tab_one x (suc n) = rw (tab_one x n, replicate-append-replicate n 1 x, add-one n)
-
-module _ {ℓ} {A : Type ℓ} (f : ℕ → A) (d out : List A) (n : ℕ) (made : out ≡ tab f n ++ drop n d) where
-  -- one place more is stored by the rule
-  pub tab_stored : n < length d → set out n (f n) ≡ tab f (n + 1) ++ drop (n + 1) d
-  tab_stored h = rw made (stored (tab f n) d n (f n) (length_tab f n) h ∙ ap (λ (k : ℕ). tab f k ++ drop (n + 1) d) (sym (add-one n)))
-
-  -- all places are stored
-  pub tab_all : length d ≤ n → out ≡ tab f n
-  tab_all h = made ∙ front_all (tab f n) d n h
 
 -- chunk i of a list in chunks of n
 pub chunk_at : {A : Type 0} (n k i : ℕ) (xs : List A) → i < k → get_or (first_chunks n k xs) i [] ≡ take n (drop (n * i) xs)

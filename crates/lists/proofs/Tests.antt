@@ -6,7 +6,6 @@ use native.Mathlib.Omega.{arith}
 use lib.Dec.{eqb}
 use borrow.Author.Tests.{eqb-true}
 use Rattle.lists.specs.Number.{number}
-use Rattle.lists.proofs.Below.{below_two}
 
 -- neither of two tests holds
 pub or_first : (a b : Bool) → a || b ≡ false → a ≡ false
@@ -21,10 +20,6 @@ or_rest false b e = e
 pub number_le : (t : Bool) → number t ≤ 1
 number_le true = omega arith
 number_le false = omega arith
-
--- a number below 2 as a test
-pub bit_number : (n : ℕ) → n < 2 → n ≡ number (eqb n 1)
-bit_number = below_two (λ n. n ≡ number (eqb n 1)) refl refl
 
 -- a choice of numbers that gives 0: the test failed, and the rest is 0
 pub not_chosen : (t : Bool) (n r : ℕ) → cond t (suc n) r ≡ 0 → t ≡ false

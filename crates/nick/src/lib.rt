@@ -7,6 +7,7 @@ mod refusal;
 ghost use Rattle.std.specs.Prelude.{◌≡◌};
 ghost use Rattle.nick.specs.Registers.{fresh_state, write_refusal, written};
 ghost use Rattle.nick.specs.Levels.{levels_of};
+ghost use Rattle.nick.specs.Numbers.{up};
 ghost use Rattle.nick.specs.Refusals.{refusal_in};
 
 pub use refusal::{Refusal, UnknownRefusal};
@@ -21,7 +22,7 @@ pub type Ram = [u8; RAM_BYTES];
 pub const RECORD_BYTES: usize = 7;
 
 // The four registers that a program can write.
-#[derive(Clone, Copy, PartialEq, Eq)]
+#[derive(Clone, Copy, PartialEq, Eq, Default)]
 pub struct Registers {
     pub fixbias: u8,
     pub border: u8,
@@ -30,14 +31,27 @@ pub struct Registers {
 }
 
 // The two video data pointers.
-#[derive(Clone, Copy, PartialEq, Eq)]
+#[derive(Clone, Copy, PartialEq, Eq, Default)]
 pub struct Pointers {
     pub ld1: u16,
     pub ld2: u16,
 }
 
+impl Pointers {
+    // LD1 gone up by `ld1` and LD2 by `ld2`; after 65,535 comes 0.
+    #[inline(always)]
+    pub fn up(self, ld1: u16, ld2: u16) -> Self
+        ensures { result ≡ record { ld1 = up ld1 self.ld1; ld2 = up ld2 self.ld2 } }
+    {
+        Pointers {
+            ld1: self.ld1.wrapping_add(ld1),
+            ld2: self.ld2.wrapping_add(ld2),
+        }
+    }
+}
+
 // A line parameter block; `start` is where its pointers start.
-#[derive(Clone, Copy, PartialEq, Eq)]
+#[derive(Clone, Copy, PartialEq, Eq, Default)]
 pub struct Block {
     pub sc: u8,
     pub mb: u8,
@@ -48,8 +62,8 @@ pub struct Block {
 }
 
 // Where the chip stands in the line parameter table: reload pending, the stored block and its number, LD1 and LD2 now, and
-// the scanlines left in the mode line.
-#[derive(Clone, Copy, PartialEq, Eq)]
+// the scanlines left in the mode line. Users hand in any, so that it is well-formed is a clause and no type (docs/DECISIONS.md 66).
+#[derive(Clone, Copy, PartialEq, Eq, Default)]
 pub struct Scan {
     pub pending: bool,
     pub block: Block,
@@ -59,7 +73,7 @@ pub struct Scan {
 }
 
 // All that carries over from one scanline to the next; `virq` says that VIRQ is low, `sync` that sync is on.
-#[derive(Clone, Copy, PartialEq, Eq)]
+#[derive(Clone, Copy, PartialEq, Eq, Default)]
 pub struct State {
     pub registers: Registers,
     pub scan: Scan,
@@ -82,7 +96,7 @@ pub struct Levels {
     pub blue: u8,
 }
 
-// The RAM addresses that a dot came from, in order.
+// The RAM addresses that a dot came from, in order. No Option: there may be two.
 #[derive(Clone, Copy, PartialEq, Eq)]
 pub enum Sources {
     Nothing,
@@ -97,42 +111,24 @@ pub struct Answer {
     pub sources: Sources,
 }
 
-// The state before any write.
+// The state before any write: all zero, but LPH, and a reload is pending.
 pub fn fresh() -> State
     ensures { result ≡ fresh_state }
 {
-    let registers = Registers {
-        fixbias: 0,
-        border: 0,
-        lpl: 0,
-        lph: 192,
-    };
-    let start = Pointers { ld1: 0, ld2: 0 };
-    let col = [0u8; 8];
-    let block = Block {
-        sc: 0,
-        mb: 0,
-        lm: 0,
-        rm: 0,
-        start,
-        col,
-    };
-    let scan = Scan {
-        pending: true,
-        block,
-        number: 0,
-        at: start,
-        left: 0,
-    };
     State {
-        registers,
-        scan,
-        virq: false,
-        sync: false,
+        registers: Registers {
+            lph: 192,
+            ..Registers::default()
+        },
+        scan: Scan {
+            pending: true,
+            ..Scan::default()
+        },
+        ..State::default()
     }
 }
 
-// Writes one register. Ports 132 to 143 are reserved, and no others are the chip's.
+// Writes one register. Ports 132 to 143 are reserved, and no others are the chip's; a match by number, as docs/DECISIONS.md 20 says.
 #[tactic(auto, unfolding(crate::specs::Registers::written, crate::specs::Registers::written_registers, crate::specs::Registers::written_scan))]
 pub fn write(state: &mut State, port: u32, value: u8) -> Result<(), Refusal>
     ensures refusal { refusal_in result ≡ write_refusal port }
@@ -152,7 +148,7 @@ pub fn write(state: &mut State, port: u32, value: u8) -> Result<(), Refusal>
     Ok(())
 }
 
-// The levels of a colour byte.
+// The levels of a colour byte: a function and no From, since it is a call of its own, as `nick_levels` is.
 #[tactic(auto, unfolding(crate::specs::Levels::levels_of))]
 pub fn levels_of(colour: u8) -> Levels
     ensures { result ≡ levels_of colour }

@@ -5,7 +5,7 @@ ghost use Rattle.nick.specs.Refusals.{number_of, number_asked};
 use std::fmt;
 
 // Why a call is refused. The cases stand in the order of their numbers: where several apply, the least is given.
-#[derive(Clone, Copy, PartialEq, Eq, PartialOrd, Ord)]
+#[derive(Clone, Copy, PartialEq, Eq)]
 pub enum Refusal {
     ForeignPort = 1,
     ReservedPort = 2,
@@ -39,6 +39,7 @@ impl TryFrom<u8> for Refusal {
 
     ghost try_from_gives = { λ n r. number_asked r ≡ n };
 
+    // A table, since no derive makes one.
     fn try_from(n: u8) -> Result<Self, UnknownRefusal> {
         Ok(match n {
             1 => Refusal::ForeignPort,

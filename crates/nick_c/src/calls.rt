@@ -6,7 +6,7 @@ ghost use Rattle.nick.specs.Listing.{list_answered};
 ghost use Rattle.packing.specs.Packed.{packed_answer, packed_listed, length_of};
 ghost use Rattle.nick_c.specs.Calls.{Freshens, Writes, PaintsBytes, ListsBytes, packed_dot};
 
-use encoding::{decode_state, encode_state};
+use encoding::{decode_state, state_bytes};
 use nick::{Answer, Refusal};
 
 // The state before any write.
@@ -14,18 +14,18 @@ pub fn fresh(state: &mut [u8]) -> Result<(), Refusal>
     ensures { Freshens state.old state.new (refusal_in result) }
 {
     let bytes = state.as_mut_array().ok_or(Refusal::EncodedLength)?;
-    encode_state(nick::fresh(), bytes);
+    *bytes = state_bytes(nick::fresh());
     Ok(())
 }
 
-// Writes one register.
+// Writes one register. Each call that keeps a state decodes and encodes it itself: a bound on a closure over the state would be longer.
 pub fn write(state: &mut [u8], port: u32, value: u8) -> Result<(), Refusal>
     ensures { Writes state.old port value state.new (refusal_in result) }
 {
     let bytes = state.as_mut_array().ok_or(Refusal::EncodedLength)?;
     let mut next = decode_state(bytes);
     nick::write(&mut next, port, value)?;
-    encode_state(next, bytes);
+    *bytes = state_bytes(next);
     Ok(())
 }
 
@@ -47,7 +47,7 @@ pub fn paint(
     };
     let mut next = decode_state(bytes);
     painting::paint_lines(&mut next, ram, height, dots, records, external)?;
-    encode_state(next, bytes);
+    *bytes = state_bytes(next);
     Ok(())
 }
 

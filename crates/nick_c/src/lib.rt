@@ -23,7 +23,7 @@ use ran::{keep_ran, put_place};
 // How many bytes the answer of a comparison has.
 const COMPARISON_BYTES: usize = 14;
 
-// The number that a call answers: a refusal's, 0 for none.
+// The number that a call answers: a refusal's, 0 for none, as include/nick.h says.
 fn number(outcome: Result<(), Refusal>) -> u32
     ensures { result ≡ refusal_in outcome }
 {

@@ -4,7 +4,7 @@ ghost use Rattle.script.specs.Answers.{ended_by};
 ghost use Rattle.packing.specs.Runs.{place_after};
 ghost use Rattle.nick_c.specs.Calls.{ran_state};
 
-use encoding::{STATE_BYTES, encode_state};
+use encoding::{STATE_BYTES, state_bytes};
 use nick::State;
 use script::Failure;
 
@@ -15,7 +15,7 @@ pub fn keep_ran(outcome: Result<(), Failure>, next: State, state: &mut [u8; STAT
     if let Err(Failure::Refused(_)) = outcome {
         return;
     }
-    encode_state(next, state);
+    *state = state_bytes(next);
 }
 
 // Stores the place of the step that a run stopped at, if it stopped at one.

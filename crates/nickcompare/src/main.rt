@@ -38,60 +38,40 @@ struct Room {
 const USAGE: &str =
     "usage: nickcompare HEIGHT CAPTURE CAPTURE-RECORDS FRAME FRAME-RECORDS; CAPTURE and FRAME are 736 bytes a line, their records 7";
 
-// Compares what was read: of each side its dots and its records. The first dot that differs is in both.
+// Reads a side, from the files that arguments i and j name.
+fn read_side<'a>(
+    rt: &(impl Files + Env),
+    i: usize,
+    j: usize,
+    room: &'a mut Room,
+) -> Result<Side<'a>, Error> {
+    let Room { dots, records } = room;
+    let (dots, records) = files::read_pair(rt, i, j, dots, records)?;
+    Ok(Side { dots, records })
+}
+
+// Compares what was read. The first dot that differs is in both sides.
 #[tactic(auto, using(crate::proofs::FirstDot::compares))]
-fn compare_read(
-    height: usize,
-    capture: (&[u8], &[u8]),
-    frame: (&[u8], &[u8]),
-) -> Result<Differences, Refused>
-    ensures { Compares height capture.entry.0.now capture.entry.1.now frame.entry.0.now frame.entry.1.now result }
+fn compare_read(height: usize, capture: Side<'_>, frame: Side<'_>) -> Result<Differences, Refused>
+    ensures { Compares height capture.entry.dots.now capture.entry.records.now frame.entry.dots.now frame.entry.records.now result }
 {
-    let (dots, records) = capture;
-    let capture = Side { dots, records };
-    let (dots, records) = frame;
-    let frame = Side { dots, records };
     comparison::compare(height, capture, frame)
 }
 
 // Prints what the comparison of what was read answers.
-fn print_comparison(
-    rt: &impl Print,
-    height: usize,
-    capture: (&[u8], &[u8]),
-    frame: (&[u8], &[u8]),
-) {
+fn print_comparison(rt: &impl Print, height: usize, capture: Side<'_>, frame: Side<'_>) {
     match compare_read(height, capture, frame) {
-        Ok(found) => print_differences(rt, found, capture.0, frame.0),
+        Ok(found) => print_differences(rt, found, capture.dots, frame.dots),
         Err(refused) => print_refused(rt, refused),
     }
 }
 
 // Does what the arguments ask.
-fn run(rt: &(impl Files + Env + Print), capture: &mut Room, frame: &mut Room) -> Result<(), Error> {
+fn run(rt: &(impl Files + Env + Print)) -> Result<(), Error> {
     if files::argument_count(rt) != FRAME_RECORDS + 1 {
         return Err(Error::Usage);
     }
     let height = files::number_argument(rt, HEIGHT).ok_or(Error::Usage)?;
-    let capture = files::read_pair(
-        rt,
-        CAPTURE,
-        CAPTURE_RECORDS,
-        &mut capture.dots,
-        &mut capture.records,
-    )?;
-    let frame = files::read_pair(
-        rt,
-        FRAME,
-        FRAME_RECORDS,
-        &mut frame.dots,
-        &mut frame.records,
-    )?;
-    print_comparison(rt, height, capture, frame);
-    Ok(())
-}
-
-fn main(rt: HostRuntime) {
     let mut capture = Room {
         dots: [0; DOTS_ROOM],
         records: [0; RECORDS_ROOM],
@@ -100,7 +80,12 @@ fn main(rt: HostRuntime) {
         dots: [0; DOTS_ROOM],
         records: [0; RECORDS_ROOM],
     };
-    if let Err(error) = run(&rt, &mut capture, &mut frame) {
-        files::print_error(&rt, error, USAGE);
-    }
+    let capture = read_side(rt, CAPTURE, CAPTURE_RECORDS, &mut capture)?;
+    let frame = read_side(rt, FRAME, FRAME_RECORDS, &mut frame)?;
+    print_comparison(rt, height, capture, frame);
+    Ok(())
+}
+
+fn main(rt: HostRuntime) {
+    files::report(&rt, run(&rt), USAGE);
 }

@@ -2,10 +2,10 @@
 ghost use Rattle.std.specs.Prelude.{◌≡◌, ◌+◌, ◌*◌, ◌<◌, length, get_or};
 ghost use Rattle.nickcompare.specs.FirstDot.{LiesIn};
 
-use comparison::{Differences, Named, Place, Range, Refused};
+use comparison::{Differences, Named, Place, Range, Ranges, Refused};
 use std::fmt;
 
-// A range of differences.
+// A range of differences. Display is not for Range itself: the words are this program's.
 #[derive(Clone, Copy, PartialEq, Eq)]
 struct Span(Range);
 
@@ -63,6 +63,7 @@ pub fn print_differences(rt: &impl Print, found: Differences, capture: &[u8], fr
         }
         Some(place) => print_dot(rt, place, capture, frame),
     }
-    let (red, green, blue) = (Span(found.red), Span(found.green), Span(found.blue));
+    let Ranges { red, green, blue } = found.ranges;
+    let (red, green, blue) = (Span(red), Span(green), Span(blue));
     let _ = println!(rt; "capture minus frame: red {red}, green {green}, blue {blue}");
 }

@@ -59,16 +59,9 @@ fn answer(inputs: Inputs<'_>, line: usize, dot: usize, external: u8) -> Result<A
     direct::dot(state, inputs.ram, line, dot, external)
 }
 
-// Prints the answer from what the files hold. Without the whole RAM there is none.
-fn print_answer(
-    rt: &impl Print,
-    inputs: Inputs<'_>,
-    line: usize,
-    dot: usize,
-    external: u8,
-) -> Result<(), Error> {
-    let answer = answer(inputs, line, dot, external)?;
-    let ram = refusals::whole(inputs.ram)?;
+// Prints the answer, with what RAM holds. There is an answer only where RAM is whole.
+fn print_answer(rt: &impl Print, ram: &[u8], answer: Answer) -> Result<(), Error> {
+    let ram = refusals::whole(ram)?;
     files::print_colour(rt, answer.colour);
     print_sources(rt, ram, answer.sources);
     Ok(())
@@ -94,11 +87,10 @@ fn run(rt: &(impl Files + Env + Print)) -> Result<(), Error> {
     let mut ram = [0u8; RAM_ROOM];
     let mut writes = [0u8; WRITES_ROOM];
     let inputs = files::read_inputs(rt, &mut ram, &mut writes)?;
-    print_answer(rt, inputs, line, dot, external)
+    let answer = answer(inputs, line, dot, external)?;
+    print_answer(rt, inputs.ram, answer)
 }
 
 fn main(rt: HostRuntime) {
-    if let Err(error) = run(&rt) {
-        files::print_error(&rt, error, USAGE);
-    }
+    files::report(&rt, run(&rt), USAGE);
 }

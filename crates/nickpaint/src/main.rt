@@ -8,7 +8,7 @@
 ghost use Rattle.nick.specs.Refusals.{refusal_in};
 ghost use Rattle.nickpaint.specs.PaintingAfterWrites.{PaintsAfter};
 
-use files::{DOTS_MOST, Error, Inputs, Places, RAM, RAM_ROOM, RECORDS_MOST, WRITES, WRITES_ROOM};
+use files::{Buffers, DOTS_MOST, Error, Inputs, Places, RECORDS_MOST, WRITES_ROOM};
 use nick::{RECORD_BYTES, Refusal};
 use std::env::Env;
 use std::rt::Files;
@@ -16,29 +16,11 @@ use std::rt::Files;
 // The arguments after RAM and WRITES.
 const HEIGHT: usize = 3;
 
-const DOTS: usize = 4;
-
-const RECORDS: usize = 5;
-
-const EXTERNAL: usize = 6;
-
 const PLACES: Places = Places {
-    ram: RAM,
-    commands: WRITES,
-    dots: DOTS,
-    records: RECORDS,
-    external: EXTERNAL,
+    dots: 4,
+    records: 5,
+    external: 6,
 };
-
-// What is read and what is painted. EXTERNAL has one byte more than is allowed, so that a longer file shows.
-#[derive(Drop)]
-struct Buffers {
-    ram: [u8; RAM_ROOM],
-    writes: [u8; WRITES_ROOM],
-    dots: [u8; DOTS_MOST],
-    records: [u8; RECORDS_MOST],
-    external: [u8; DOTS_MOST + 1],
-}
 
 const USAGE: &str =
     "usage: nickpaint RAM WRITES HEIGHT DOTS RECORDS [EXTERNAL]; WRITES is pairs of bytes, port and value, at most 32,768; DOTS and RECORDS are two files, and neither is an input";
@@ -85,9 +67,14 @@ fn paint_files(
 }
 
 // Reads the files and paints.
-fn run(rt: &(impl Files + Env + Print), height: usize, buffers: &mut Buffers) -> Result<(), Error> {
-    let inputs = files::read_inputs(rt, &mut buffers.ram, &mut buffers.writes)?;
-    let external = files::read_optional(rt, EXTERNAL, &mut buffers.external)?;
+fn run_in(
+    rt: &(impl Files + Env + Print),
+    height: usize,
+    buffers: &mut Buffers,
+    writes: &mut [u8; WRITES_ROOM],
+) -> Result<(), Error> {
+    let inputs = files::read_inputs(rt, &mut buffers.ram, writes)?;
+    let external = files::read_optional(rt, PLACES.external, &mut buffers.external)?;
     paint_files(
         rt,
         inputs,
@@ -98,28 +85,12 @@ fn run(rt: &(impl Files + Env + Print), height: usize, buffers: &mut Buffers) ->
     )
 }
 
-// Makes room for the buffers, some 1.6 MB, and paints. It is not to be part of its caller: there must be no buffers before RECORDS is
-// stamped. check_example tries it.
-#[inline(never)]
-fn run_in_buffers(rt: &(impl Files + Env + Print), height: usize) -> Result<(), Error> {
-    let mut buffers = Buffers {
-        ram: [0; RAM_ROOM],
-        writes: [0; WRITES_ROOM],
-        dots: [0; DOTS_MOST],
-        records: [0; RECORDS_MOST],
-        external: [0; DOTS_MOST + 1],
-    };
-    run(rt, height, &mut buffers)
-}
-
 // Stamps RECORDS, and paints.
-fn run_stamped(rt: &(impl Files + Env + Print)) -> Result<(), Error> {
+fn run(rt: &(impl Files + Env + Print)) -> Result<(), Error> {
     let height = start(rt)?;
-    run_in_buffers(rt, height)
+    files::run_in_buffers(|buffers| run_in(rt, height, buffers, &mut [0; WRITES_ROOM]))
 }
 
 fn main(rt: HostRuntime) {
-    if let Err(error) = run_stamped(&rt) {
-        files::print_error(&rt, error, USAGE);
-    }
+    files::report(&rt, run(&rt), USAGE);
 }

@@ -12,31 +12,21 @@ ghost use Rattle.nick.specs.Sizes.{record_bytes};
 ghost use Rattle.script.specs.Answers.{Runs};
 ghost use Rattle.nickrun.specs.Buffers.{lines_lent};
 
-use files::{DOTS_MOST, Error, Places, RAM, RAM_ROOM, RECORDS_MOST};
+use files::{Buffers, COMMANDS, DOTS_MOST, Error, Places, RAM, RECORDS_MOST};
 use nick::RECORD_BYTES;
 use print::print_ran;
 use script::{Failure, Ran};
 use std::env::Env;
 use std::rt::Files;
 
-// The arguments after RAM.
-const SCRIPT: usize = 2;
-
-const DOTS: usize = 3;
-
-const RECORDS: usize = 4;
-
-const EXTERNAL: usize = 5;
-
+// The arguments after RAM and SCRIPT.
 const PLACES: Places = Places {
-    ram: RAM,
-    commands: SCRIPT,
-    dots: DOTS,
-    records: RECORDS,
-    external: EXTERNAL,
+    dots: 3,
+    records: 4,
+    external: 5,
 };
 
-// How many bytes of dots and of records are lent to a run.
+// How many bytes of dots and of records are lent to a run: a struct, so that both lengths are promised apart from the buffers.
 #[derive(Clone, Copy, PartialEq, Eq)]
 struct Lent {
     dots: usize,
@@ -45,16 +35,6 @@ struct Lent {
 
 // The bytes of the longest script that is run: 65,536 steps.
 const LONGEST: usize = 196608;
-
-// What is read and what is painted. What is read has one byte more than is allowed, so that a longer file shows.
-#[derive(Drop)]
-struct Buffers {
-    ram: [u8; RAM_ROOM],
-    script: [u8; LONGEST + 1],
-    dots: [u8; DOTS_MOST],
-    records: [u8; RECORDS_MOST],
-    external: [u8; DOTS_MOST + 1],
-}
 
 const USAGE: &str =
     "usage: nickrun RAM SCRIPT DOTS RECORDS [EXTERNAL]; SCRIPT is steps of three bytes, kind, port and data, at most 65,536; DOTS and RECORDS are two files, and neither is an input";
@@ -116,11 +96,15 @@ fn run_files(
 }
 
 // Reads the files, stamps RECORDS for the lines that the script asks for, and runs.
-fn run(rt: &(impl Files + Env + Print), buffers: &mut Buffers) -> Result<(), Error> {
-    let (ram, script) = files::read_pair(rt, RAM, SCRIPT, &mut buffers.ram, &mut buffers.script)?;
+fn run_in(
+    rt: &(impl Files + Env + Print),
+    buffers: &mut Buffers,
+    script: &mut [u8; LONGEST + 1],
+) -> Result<(), Error> {
+    let (ram, script) = files::read_pair(rt, RAM, COMMANDS, &mut buffers.ram, script)?;
     let script = runnable(script)?;
     files::stamp_lines(rt, PLACES, Some(script::lines_in(script)))?;
-    let external = files::read_optional(rt, EXTERNAL, &mut buffers.external)?;
+    let external = files::read_optional(rt, PLACES.external, &mut buffers.external)?;
     run_files(
         rt,
         ram,
@@ -131,28 +115,12 @@ fn run(rt: &(impl Files + Env + Print), buffers: &mut Buffers) -> Result<(), Err
     )
 }
 
-// Makes room for the buffers, some 1.8 MB, and runs. It is not to be part of its caller: there must be no buffers before RECORDS is
-// stamped. check_example tries it.
-#[inline(never)]
-fn run_in_buffers(rt: &(impl Files + Env + Print)) -> Result<(), Error> {
-    let mut buffers = Buffers {
-        ram: [0; RAM_ROOM],
-        script: [0; LONGEST + 1],
-        dots: [0; DOTS_MOST],
-        records: [0; RECORDS_MOST],
-        external: [0; DOTS_MOST + 1],
-    };
-    run(rt, &mut buffers)
-}
-
 // Stamps RECORDS, and runs.
-fn run_stamped(rt: &(impl Files + Env + Print)) -> Result<(), Error> {
+fn run(rt: &(impl Files + Env + Print)) -> Result<(), Error> {
     files::begin(rt, PLACES, None)?;
-    run_in_buffers(rt)
+    files::run_in_buffers(|buffers| run_in(rt, buffers, &mut [0; LONGEST + 1]))
 }
 
 fn main(rt: HostRuntime) {
-    if let Err(error) = run_stamped(&rt) {
-        files::print_error(&rt, error, USAGE);
-    }
+    files::report(&rt, run(&rt), USAGE);
 }

@@ -5,7 +5,7 @@ ghost use Rattle.packing.specs.Compared.{side_number, packed_told, signed_byte, 
 
 use comparison::{Differences, Named, Place, Refused};
 
-// The side that a refusal names, as a number.
+// The side that a refusal names, as a number. The numbers are the interface's, not the comparison's.
 pub fn side_number(side: Option<Named>) -> u8
     ensures { result ≡ side_number (side_of side) }
 {
@@ -43,7 +43,8 @@ fn place_bytes(first: Option<Place>) -> [u8; 4]
     [line, high_line, dot, high_dot]
 }
 
-// What is found, as bytes.
+// What is found, as bytes: one by one, since with `copy_from_slice` here the compiler arranges painting otherwise, which then takes up to
+// 8 % more instructions.
 pub fn found_bytes(found: Differences) -> [u8; 14]
     ensures { result ≡ found_bytes (found_by found) }
 {
@@ -58,11 +59,11 @@ pub fn found_bytes(found: Differences) -> [u8; 14]
         place[1],
         place[2],
         place[3],
-        signed_byte(found.red.smallest),
-        signed_byte(found.red.largest),
-        signed_byte(found.green.smallest),
-        signed_byte(found.green.largest),
-        signed_byte(found.blue.smallest),
-        signed_byte(found.blue.largest),
+        signed_byte(found.ranges.red.smallest),
+        signed_byte(found.ranges.red.largest),
+        signed_byte(found.ranges.green.smallest),
+        signed_byte(found.ranges.green.largest),
+        signed_byte(found.ranges.blue.smallest),
+        signed_byte(found.ranges.blue.largest),
     ]
 }

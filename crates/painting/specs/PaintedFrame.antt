@@ -1,5 +1,5 @@
 -- What the painting of a frame and its lines answer, as equations with the rules.
-use Rattle.std.specs.Prelude.{Result, ℕ, ◌*◌, ◌≡◌, List, ◌++◌, take, drop}
+use Rattle.std.specs.Prelude.{Result, ℕ, ◌+◌, ◌*◌, ◌<◌, ◌≤◌, ◌≡◌, List, ◌++◌, length, take, drop}
 use Rattle.nick.specs.Sizes.{record_bytes}
 use Rattle.nick.specs.Scanline.{line_dots}
 use Rattle.nick.specs.Record.{line_record, next_state, state_after}
@@ -7,6 +7,12 @@ use Rattle.nick.specs.Refusals.{Formed, refusal_in}
 use Rattle.nick.specs.Painting.{external_at, frame_dots, frame_records, paint}
 use Rattle.nick.specs.declared.refusal.Refusal.{Refusal}
 use Rattle.nick.specs.declared.State.{State}
+
+-- there is room in the buffers for line y
+pub record HasRoom (y : ℕ) (dots records : List ℕ) : Type 0 where
+  pub line : y < 1024
+  pub places : 736 * y + 736 ≤ length dots
+  pub bytes : record_bytes * y + record_bytes ≤ length records
 
 -- line y painted into its parts of the buffers
 pub record NextLine (s : State) (ram : List ℕ) (y : ℕ) (external dots₀ dots₁ records₀ records₁ : List ℕ) (r : State) : Type 0 where

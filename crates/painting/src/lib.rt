@@ -4,17 +4,17 @@
 
 mod lines;
 
-ghost use Rattle.std.specs.Prelude.{◌≡◌, ◌+◌, ◌*◌, ◌<◌, ◌≤◌, length};
-ghost use Rattle.nick.specs.Sizes.{record_bytes};
 ghost use Rattle.nick.specs.Refusals.{Formed, Accepted};
-ghost use Rattle.painting.specs.PaintedFrame.{NextLine, Frame, Paints};
+ghost use Rattle.painting.specs.PaintedFrame.{HasRoom, NextLine, Frame, Paints};
 
 pub use lines::lines_refusal;
 use nick::{RECORD_BYTES, Ram, Refusal, State};
 use refusals::{is_bad_height, stamp};
 use scanline::paint_scanline;
 
-// Paints line `y` of a frame into its parts of the buffers, with its own part of the external input; it is never refused.
+// Paints line `y` of a frame into its parts of the buffers, with its own part of the external input; it is never refused. The part of
+// the dots is lent by index, a form that docs/DECISIONS.md 20 names; 66 and 67 say why the scan is well-formed by a clause, and why
+// dots, records and external input come one by one.
 #[tactic(auto, using(nick::proofs::WellFormed::next_state_formed, crate::proofs::OwnLine::own_line, crate::proofs::OwnLine::dots_put, crate::proofs::OwnLine::record_put))]
 pub fn next_line(
     state: State,
@@ -24,7 +24,7 @@ pub fn next_line(
     records: &mut [u8],
     external: &[u8],
 ) -> State
-    requires room { (y < 1024) × (736 * y + 736 ≤ length dots.old) × (record_bytes * y + record_bytes ≤ length records.old) }
+    requires room { HasRoom y dots.old records.old }
     requires formed { Formed state.scan }
     ensures { NextLine state ram.now y external.now dots.old dots.new records.old records.new result }
 {
@@ -43,7 +43,7 @@ pub fn next_line(
     )
 }
 
-// Paints the lines of a frame that is not refused.
+// Paints the lines of a frame that is not refused, by number, since `next_line` lends each its parts.
 #[tactic(auto, using(crate::proofs::FrameLines::dots_more, crate::proofs::FrameLines::records_more, crate::proofs::FrameLines::state_more))]
 fn paint_accepted(
     state: State,
@@ -63,7 +63,8 @@ fn paint_accepted(
     next
 }
 
-// Paints `height` scanlines, or refuses: then the state and the dots stay, and every record byte is 255.
+// Paints `height` scanlines, or refuses: then the state and the dots stay, and every record byte is 255. A match, since the records are
+// stamped before the refusal is handed on.
 #[tactic(auto, using(crate::proofs::FrameLines::refused_paint, crate::proofs::FrameLines::accepted_paint, crate::proofs::FrameLines::accepted_fits), unfolding(nick::specs::Painting::painted, nick::specs::Painting::refused_painting))]
 pub fn paint_lines(
     state: &mut State,
@@ -88,7 +89,7 @@ pub fn paint_lines(
     }
 }
 
-// Paints one scanline, or refuses.
+// Paints one scanline, or refuses: a call of its own in the description, and a frame of height 1.
 pub fn paint_line(
     state: &mut State,
     ram: &[u8],

@@ -37,7 +37,8 @@ fn run_call(height: usize, capture: Side<'_>, frame: Side<'_>, report: &mut Repo
     }
 }
 
-// Runs one case: a comparison. The frame's dots stand in the buffer of external input.
+// Runs one case: a comparison, of whole buffers cut to lengths that may be wrong. The frame's dots stand in the buffer of external
+// input, which saves a second one of 754,400 bytes.
 pub fn run_case(drawn: Case, buffers: &mut Buffers, report: &mut Report) {
     let Case { mut source, head } = drawn;
     let height = head.heights();
@@ -49,10 +50,10 @@ pub fn run_case(drawn: Case, buffers: &mut Buffers, report: &mut Report) {
         ..
     } = buffers;
     let mut frame_records = [0u8; MOST_RECORDS];
-    let capture_dots = &mut dots[..lines.dots(head.wrong(4, head.t[7]))];
-    let capture_records = &mut records[..lines.records(head.wrong(5, head.t[8]))];
-    let frame_dots = &mut external[..lines.dots(head.wrong(0, head.t[4]))];
-    let frame_records = &mut frame_records[..lines.records(head.wrong(6, head.t[9]))];
+    let capture_dots = &mut dots[..lines.dots(head.wrong(4))];
+    let capture_records = &mut records[..lines.records(head.wrong(5))];
+    let frame_dots = &mut external[..lines.dots(head.wrong(0))];
+    let frame_records = &mut frame_records[..lines.records(head.wrong(6))];
     draw_dots(&mut source, head, capture_dots, frame_dots);
     draw_records(&mut source, head.has_fault(1), capture_records);
     draw_records(&mut source, head.has_fault(2), frame_records);

@@ -41,7 +41,7 @@ fn falls(low: bool, was_low: bool) -> bool
     low && !was_low
 }
 
-// Byte 0: VIRQ, its edge, burst, load, last scanline, mode 6.
+// Byte 0: VIRQ, its edge, burst, load, last scanline, mode 6; from tests, as the rules' `flags` takes them.
 #[tactic(auto, unfolding(nick::specs::Record::flags))]
 pub fn flag_byte(block: Block, was_low: bool, load: bool, last: bool) -> u8
     ensures { result ≡ flags block was_low load last }

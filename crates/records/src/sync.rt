@@ -24,7 +24,8 @@ fn pass_slot(block: Block, slot: u8, sync: Sync) -> Sync
     }
 }
 
-// The level after a scanline, and its slots at sync level: off in every mode but VSYNC.
+// The level after a scanline, and its slots at sync level: off in every mode but VSYNC. A `for` and no fold, since its invariant says
+// that the count stays below 255.
 #[tactic(auto, using(crate::proofs::Vsync::level_in_vsync, crate::proofs::Vsync::count_in_vsync), unfolding(nick::specs::Sync::line_sync, nick::specs::Sync::line_sync_count))]
 pub fn sync_line(block: Block, on: bool) -> Sync
     ensures { Syncs block on result }

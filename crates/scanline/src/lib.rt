@@ -5,44 +5,36 @@ ghost use Rattle.std.specs.Prelude.{◌≡◌, ◌*◌, ◌<◌, ◌≤◌, leng
 ghost use Rattle.nick.specs.Sizes.{record_bytes};
 ghost use Rattle.nick.specs.Slots.{mode_of, line_pointers};
 ghost use Rattle.nick.specs.Refusals.{Formed};
-ghost use Rattle.colour.specs.Cell.{palette_of};
 ghost use Rattle.scanline.specs.PaintedLine.{Slots, ended_at, Line};
 
 use blocks::{VideoMode, video_mode};
+use colour::LineColours;
 use nick::{Block, Pointers, RECORD_BYTES, Ram, Registers, Scan, State};
 use records::{Record, flag_byte, slots_byte, sync_line, vc1_byte};
 use slots::{Slot, paint_slot};
 
-// Paints the 46 dot slots of a scanline that has begun, with its palette. Of chunks_exact_mut, and of a part of a slice lent as an
-// array, std says nothing of the bytes that are left in it: parts are slices, by index.
+// Paints the 46 dot slots of a scanline that has begun. By index: std says nothing of what chunks_exact_mut leaves. `out` is a slice here
+// and below: docs/DECISIONS.md 72.
 #[tactic(auto, using(crate::proofs::DotSlots::slot_more, crate::proofs::DotSlots::at_more, crate::proofs::DotSlots::fetched_more, crate::proofs::DotSlots::whole_line, crate::proofs::DotSlots::all_dots, crate::proofs::DotSlots::all_at, crate::proofs::DotSlots::all_fetched))]
 fn slots_in_order(
     registers: Registers,
-    palette: &[u8; 16],
     ram: &Ram,
     begun: Scan,
     out: &mut [u8],
     external: &[u8],
 ) -> Slot
-    requires { (palette.now ≡ palette_of registers begun.block) × (length out.old ≡ 736) }
+    requires { length out.old ≡ 736 }
     ensures { Slots registers ram.now begun external.now out.new result }
 {
+    let colours = LineColours::new(registers, begun.block);
     let mut slot = Slot {
         at: begun.at,
         fetched: 0,
     };
     for n in 0..46 {
-        let dots = &mut out[16 * n..16 * n + 16];
-        let next = paint_slot(
-            registers,
-            palette,
-            ram,
-            begun.block,
-            n,
-            slot.at,
-            dots,
-            external,
-        );
+        let from = 16 * usize::from(n);
+        let dots = &mut out[from..from + 16];
+        let next = paint_slot(&colours, ram, n, slot.at, dots, external);
         slot = Slot {
             fetched: slot.fetched + next.fetched,
             ..next
@@ -71,8 +63,7 @@ fn paint_slots(
             fetched: 0,
         };
     }
-    let palette = colour::palette(registers, block);
-    slots_in_order(registers, &palette, ram, begun, out, external)
+    slots_in_order(registers, ram, begun, out, external)
 }
 
 // The pointers after a scanline's slots: LD2 of a character mode goes up.
@@ -80,10 +71,7 @@ fn end_pointers(block: Block, at: Pointers) -> Pointers
     ensures { result ≡ line_pointers (mode_of block) at }
 {
     match video_mode(block) {
-        VideoMode::Character(_) => Pointers {
-            ld2: at.ld2.wrapping_add(1),
-            ..at
-        },
+        VideoMode::Character(_) => at.up(0, 1),
         _ => at,
     }
 }
@@ -108,7 +96,7 @@ fn load_fetches(load: bool) -> u8
     if load { 16 } else { 0 }
 }
 
-// Paints the next scanline; `external` has its bytes.
+// Paints the next scanline; `external` has its bytes. Well-formed by a clause: docs/DECISIONS.md 66.
 #[tactic(auto, using(nick::proofs::WellFormed::begun_some, crate::proofs::Scanlines::ended_at_lem, crate::proofs::Scanlines::fetches_length), unfolding(nick::specs::Scanline::line_dots, nick::specs::Scanline::line_fetches, nick::specs::Scanline::next_scan, nick::specs::Record::line_record, nick::specs::Record::next_state, crate::specs::PaintedLine::ended_at))]
 pub fn paint_scanline(
     state: State,

@@ -1,7 +1,7 @@
 -- The steps ahead of a place in a script: the one that stands there, and those after it; none past the last whole step.
 use mathlib.Core.Path.{◌≡◌, refl, ◌∙◌}
 use mathlib.Core.List.{List, [], ◌∷◌}
-use Prim.Native.Nat.{ℕ, suc, ◌+◌, ◌*◌, ◌<◌, ◌≤◌}
+use Prim.Native.Nat.{ℕ, suc, ◌+◌, ◌*◌, ◌/◌, ◌<◌, ◌≤◌}
 use native.Mathlib.Omega.{arith}
 use lib.ListN.{length, get_or, take, drop, length-drop}
 use lib.Seq.{drop-cons, get_or-take, get_or-drop}
@@ -45,6 +45,12 @@ ahead_more script place h =
       three,
     )
     refl
+
+-- by the chunks of the script
+pub ahead_here :
+    (script : List ℕ) (place : ℕ) → place < length script / 3
+    → ahead script place ≡ step_in (get_or (first_chunks 3 (length script / 3) script) place []) ∷ ahead script (place + 1)
+ahead_here script place h = rw (step_chunk script place (length script / 3) h) (ahead_more script place (omega arith))
 
 -- fewer than three bytes are no step
 short : (bytes : List ℕ) → length bytes < 3 → steps_of bytes ≡ []

@@ -1,9 +1,7 @@
--- Laws on a script's steps in order: what a loop over them keeps, one step more, and how it ends.
+-- Laws on a script's steps in order: what a loop over them keeps, one step more, and a refused one.
 use mathlib.Core.Path.{◌≡◌, refl, sym, ap, ◌∙◌}
-use mathlib.Core.Bool.{true}
 use mathlib.Core.List.{List, [], ◌∷◌, ◌++◌}
-use Prim.Native.Nat.{ℕ, ◌+◌, ◌/◌, ◌<◌, ◌≤◌}
-use native.Mathlib.Nat.{zero-add}
+use Prim.Native.Nat.{ℕ, ◌+◌, ◌/◌, ◌<◌}
 use native.Mathlib.Omega.{arith}
 use lib.ListN.{length, get_or}
 use borrow.Author.Tests.{ne_eqb}
@@ -18,18 +16,18 @@ use Rattle.laws.proofs.LineDots.{length_line}
 use Rattle.laws.proofs.Frames.{length_record}
 use Rattle.script.specs.Steps.{Step, steps_of, is_paint, lines_in, step_refusal, begins, step_dots, step_record}
 use Rattle.script.specs.Runs.{done, stop_number, bench_after, dots_after, records_after}
-use Rattle.script.specs.Answers.{HasRoom, Does, DoesAll}
+use Rattle.script.specs.Answers.{Does, DoesAll}
 use Rattle.script.specs.declared.Bench.{Bench}
 use Rattle.script.specs.declared.Failure.TheVariants.{Stopped}
 use Rattle.script.proofs.StepLaws.{lines_after, refused_quiet, refused_keeps}
 use Rattle.script.proofs.InOrder.{length_row}
 use Rattle.std.specs.Simd.{first_chunks}
 use Rattle.script.specs.Answers.{step_in}
-use Rattle.script.proofs.Ahead.{step_chunk, ahead, ahead_more, ahead_none}
+use Rattle.script.proofs.Ahead.{step_chunk, ahead, ahead_more}
 use Rattle.painting.proofs.Numbers.{no_zero}
-use Rattle.std.specs.Prelude.{Ok, Err}
+use Rattle.std.specs.Prelude.{Err}
 use Rattle.nick.specs.declared.refusal.Refusal.{Refusal}
-use Rattle.script.proofs.Kept.{Kept, kept_none, kept_more, kept_all}
+use Rattle.script.proofs.Kept.{Kept, kept_more, kept_all}
 
 -- What a loop over the places of a script keeps: as the rules' bench stands after the steps before this place, the steps ahead lead
 -- to the same end as all of them from the beginning.
@@ -43,33 +41,7 @@ pub record Going (s : State) (ram script external dots₀ records₀ : List ℕ)
   pub formed : Formed b.state.scan
 
 module _ {s : State} {ram script external dots₀ records₀ : List ℕ} where
-  pub going_first : Formed s.scan → Going s ram script external dots₀ records₀ 0 (begins s) dots₀ records₀
-  going_first f = record {
-    stop = refl;
-    count = zero-add (length (done (steps_of script)));
-    bench = refl;
-    dots = kept_none 736 dots₀ (dots_after ram external (done (steps_of script)) (begins s));
-    records = kept_none record_bytes records₀ (records_after ram (done (steps_of script)) (begins s));
-    lines = zero-add (lines_in (steps_of script));
-    formed = f;
-  }
-
   module _ {place : ℕ} {b : Bench} {dots records : List ℕ} (g : Going s ram script external dots₀ records₀ place b dots records) where
-    -- past the last step all are done
-    pub going_all :
-        (count : ℕ) → count ≡ length script / 3 → count ≤ place
-        → DoesAll s ram script external dots₀ dots records₀ records b (Ok tt)
-    going_all count e h =
-        let none = ahead_none script place (omega arith) in
-        let stop : stop_number (steps_of script) ≡ 0 = sym g.stop ∙ ap stop_number none in
-        record {
-          ended = rw stop;
-          bench = sym (ap (λ (l : List Step). bench_after ram (done l) b) none) ∙ g.bench;
-          dots = kept_all (rw none at g.dots);
-          records = kept_all (rw none at g.records);
-          most = omega (arith, g.lines);
-        }
-
     -- the step at this place of the steps, which are three bytes each
     module _ {steps : List (List ℕ)} (fits : Accepted s ram (lines_in (steps_of script)) dots₀ records₀)
         (front : steps ≡ first_chunks 3 (length script / 3) script) (count : length steps ≡ length script / 3) (some : place < length steps) where
@@ -81,16 +53,6 @@ module _ {s : State} {ram script external dots₀ records₀ : List ℕ} where
 
       lines_here : lines_in (ahead script place) ≡ number (is_paint here) + lines_in (ahead script (place + 1))
       lines_here = ap lines_in more
-
-      -- there is room for the line of a step that paints
-      pub going_room : is_paint here ≡ true → HasRoom b.lines dots records
-      going_room e =
-          let one : number (is_paint here) ≡ 1 = ap number e in
-          record {
-            line = omega (arith, fits.height, g.lines, lines_here, one);
-            places = omega (arith, fits.places, g.dots.size, g.lines, lines_here, one);
-            bytes = omega (arith, fits.bytes, g.records.size, g.lines, lines_here, one);
-          }
 
       module _ {dots₁ records₁ : List ℕ} {c : Bench}
           (d : Does here ram external b dots dots₁ records records₁ c)

@@ -2,7 +2,6 @@
 use mathlib.Core.Path.{◌≡◌, refl, sym, ap, ◌∙◌}
 use mathlib.Core.List.{List, [], ◌++◌, append-nil, append_assoc}
 use Prim.Native.Nat.{ℕ, ◌+◌, ◌*◌, ◌≤◌}
-use native.Mathlib.Nat.{mul-zero}
 use native.Mathlib.Omega.{arith}
 use lib.ListN.{length, take, drop, length-append, length-take, take-append-drop}
 use lib.Seq.{take_at, drop_at, drop-drop}
@@ -13,9 +12,6 @@ pub record Kept (w : ℕ) (buffer₀ all : List ℕ) (lines : ℕ) (buffer next 
   pub size : length buffer ≡ length buffer₀
   pub front : take (w * lines) buffer ++ next ≡ all
   pub back : drop (w * lines) buffer ≡ drop (w * lines) buffer₀
-
-pub kept_none : (w : ℕ) (buffer all : List ℕ) → Kept w buffer all 0 buffer all
-kept_none w buffer all = record { size = refl; front = rw (mul-zero w) refl; back = refl }
 
 -- one row more, or none
 module _ {w : ℕ} {buffer₀ all : List ℕ} {lines : ℕ} {buffer : List ℕ} (row next : List ℕ) (k : Kept w buffer₀ all lines buffer (row ++ next)) where

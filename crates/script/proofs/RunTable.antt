@@ -2,24 +2,20 @@
 use mathlib.Core.Path.{◌≡◌, refl, sym, ap, ◌∙◌}
 use mathlib.Core.Bool.{Bool, true, false, cond}
 use mathlib.Core.List.{List, [], ◌++◌, append-nil}
-use Prim.Native.Nat.{ℕ, ◌-◌, ◌*◌, ◌≤◌}
+use Prim.Native.Nat.{ℕ, ◌-◌, ◌≤◌}
 use native.Mathlib.Omega.{arith}
 use lib.Dec.{eqb, ltb}
-use lib.ListN.{length, take, drop, replicate, length-append, length-take, length-drop, drop_of_length-le}
+use lib.ListN.{length, take, drop, replicate, length-take, length-drop, drop_of_length-le}
 use borrow.Rule.Slice.PartMut.{put_mid}
 use borrow.Author.Tests.{eqb-true, ltb-false, ne_eqb}
-use lib.Seq.{take_at}
-use Rattle.nick.specs.Sizes.{record_bytes}
-use Rattle.std.specs.Prelude.{Result, Err}
+use Rattle.std.specs.Prelude.{Err}
 use Rattle.nick.specs.Refusals.{lines_refusal, Accepted, number_of}
 use Rattle.nick.specs.declared.refusal.Refusal.{Refusal}
 use Rattle.nick.specs.declared.State.{State}
 use Rattle.nick.proofs.Refusals.{accepted_lines}
 use Rattle.script.specs.Steps.{steps_of, lines_in, begins}
-use Rattle.script.specs.Runs.{done, records_after, requests, half_step, run_refusal, refused_run, ran, run}
-use Rattle.script.specs.Answers.{DoesAll, Steps}
-use Rattle.script.specs.declared.Bench.{Bench}
-use Rattle.script.specs.declared.Failure.{Failure}
+use Rattle.script.specs.Runs.{half_step, run_refusal, refused_run, ran, run}
+use Rattle.script.specs.Answers.{Steps}
 use Rattle.script.specs.declared.Failure.TheVariants.{Refused}
 use Rattle.painting.proofs.Numbers.{no_zero}
 
@@ -73,46 +69,6 @@ module _ {s : State} {ram script dots records external : List ℕ} where
   steps_refused {r} e =
       let is = refused_run_is s ram script dots records external (λ z. no_zero r (e ∙ z)) in
       record { ended = rw (is, e); bench = rw is; request = rw is; dots = rw is; records = rw is (ap (λ (k : ℕ). replicate k 255) (omega arith)); inside = omega arith }
-
-  module _ {whole dots₁ records₁ : List ℕ} {b : Bench} {r : Result (Unit {0}) Failure} (done-all : DoesAll s whole script external dots dots₁ records records₁ b r)
-      (full : whole ≡ ram) (none : 0 ≡ given s ram script dots records external) (same : length records₁ ≡ length records) where
-    d : DoesAll s ram script external dots dots₁ records records₁ b r
-    d = rw (← full) done-all
-
-    fits : Accepted s ram (asked s ram script dots records external) dots records
-    fits = run_accepted s ram script dots records external (sym none)
-
-    abbrev from : ℕ
-    from = record_bytes * b.lines
-
-    abbrev painted : List ℕ
-    painted = records_after ram (done (steps_of script)) (begins s)
-
-    -- the painted records lie inside the buffer
-    records_inside : from ≤ length records
-    records_inside = omega (arith, fits.bytes, d.most)
-
-    painted_length : length painted ≡ from
-    painted_length =
-        let both = ap length d.records ∙ length-append painted (drop from records) in
-        omega (arith, both, length-drop from records, same, records_inside)
-
-    painted_front : take from records₁ ≡ painted
-    painted_front = ap (take from) d.records ∙ take_at painted (drop from records) from painted_length
-
-    -- else the steps are done
-    pub steps_done : Steps s ram script dots records external dots₁ records₁ b r
-    unfolding ran
-    steps_done =
-        let is = ran_is s ram script dots records external (sym none) in
-        record {
-          ended = rw is d.ended;
-          bench = rw is d.bench;
-          request = rw is (ap requests d.bench);
-          dots = rw (is, ← d.bench) d.dots;
-          records = rw (is, ← d.bench, painted_front, same) refl;
-          inside = rw same records_inside;
-        }
 
 -- the records of the lines that are not painted are stamped
 pub stamped_rest : (n k : ℕ) (records rest : List ℕ) → n ≤ length records → k ≡ length records - n

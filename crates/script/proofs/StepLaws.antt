@@ -1,12 +1,12 @@
--- Laws on single steps: which kind a step is of, what a step that paints nothing keeps, and when the state stays well-formed.
+-- Laws on single steps: which kind a step is of, when the state stays well-formed, and what a refused step keeps.
 use mathlib.Core.Path.{◌≡◌, refl, sym, ap, ◌∙◌}
-use mathlib.Core.Bool.{Bool, true, false, true≢false, cond}
+use mathlib.Core.Bool.{Bool, true, false, cond}
 use mathlib.Core.List.{List, ◌++◌}
 use Prim.Native.Nat.{ℕ, ◌+◌, ◌*◌, ◌≤◌}
 use native.Mathlib.Nat.{add-zero}
 use native.Mathlib.Omega.{arith}
 use lib.Dec.{eqb}
-use lib.ListN.{length, take, drop, length-take, take-append-drop}
+use lib.ListN.{length, take, drop, length-take}
 use lib.Seq.{drop-drop, get_or_at}
 use borrow.Author.Tests.{eqb-true, ne_eqb}
 use Rattle.lists.specs.Number.{number}
@@ -17,7 +17,6 @@ use Rattle.nick.specs.Record.{line_record}
 use Rattle.nick.specs.Refusals.{Formed}
 use Rattle.nick.specs.declared.State.{State}
 use Rattle.script.specs.Steps.{Step, writes, paints, enables, resets, unknown, step_of, is_paint, step_refusal, after}
-use Rattle.script.specs.Answers.{Does}
 use Rattle.script.specs.declared.Bench.{Bench}
 
 -- a step paints exactly if its kind is 1
@@ -59,42 +58,6 @@ written_formed s port value f = go (eqb (write_refusal port) 0)
         → Formed (cond t (record { registers = written_registers s.registers port value; scan = written_scan s.scan port value; virq = s.virq; sync = s.sync }) s).scan
     go true = record { left = f.left; number = f.number }
     go false = f
-
-quiet_formed :
-    (ram : List ℕ) (step : Step) (b : Bench) → is_paint step ≡ false → Formed b.state.scan
-    → Formed (after ram step b).state.scan
-unfolding after
-quiet_formed ram (writes port value) b e f = written_formed b.state port value f
-quiet_formed ram paints b e f = absurd (true≢false e)
-quiet_formed ram (enables on) b e f = f
-quiet_formed ram resets b e f = f
-quiet_formed ram unknown b e f = f
-
--- a step that paints nothing leaves the buffers
-quiet_does :
-    (step : Step) (ram external : List ℕ) (b : Bench) (dots records : List ℕ)
-    → is_paint step ≡ false
-    → Formed b.state.scan
-    → Does step ram external b dots dots records records (after ram step b)
-quiet_does step ram external b dots records e f =
-    let same : (after ram step b).lines ≡ b.lines = rw (lines_after ram step b, e) (add-zero b.lines) in
-    record {
-      bench = refl;
-      dots = rw (e, same) (sym (take-append-drop (736 * b.lines) dots));
-      records = rw (e, same) (sym (take-append-drop (record_bytes * b.lines) records));
-      formed = quiet_formed ram step b e f;
-    }
-
--- as one that writes a register
-pub write_does :
-    {step : Step} {ram external dots records : List ℕ} {b : Bench} {port value : ℕ} {s : State}
-    → Formed b.state.scan
-    → writes port value ≡ step
-    → s ≡ written b.state port value
-    → Does step ram external b dots dots records records (record { state = s; latch = b.latch; enable = b.enable; lines = b.lines })
-unfolding after
-write_does {ram = ram} {external} {dots} {records} {b} {port} {value} f e w =
-    rw (← e, w) (quiet_does (writes port value) ram external b dots records refl f)
 
 -- the first byte of the record that a line put in its place has
 record_first :

@@ -1,5 +1,5 @@
 -- What each case of the code's answers stands for, and the promises of a step, of a script's steps in order and of a run.
-use Rattle.std.specs.Prelude.{Option, None, Some, Result, Ok, Err, ℕ, ◌+◌, ◌-◌, ◌*◌, ◌<◌, ◌≤◌, ◌≡◌, List, ◌++◌, length, take, drop, replicate}
+use Rattle.std.specs.Prelude.{Option, None, Some, Result, Ok, Err, ℕ, ◌-◌, ◌*◌, ◌≤◌, ◌≡◌, List, ◌++◌, length, take, drop, replicate}
 use Rattle.nick.specs.Sizes.{record_bytes}
 use Rattle.nick.specs.Numbers.{byte_at}
 use Rattle.nick.specs.Refusals.{Formed, number_of}
@@ -29,12 +29,6 @@ step_read (Some (Write port value)) = writes port value
 step_read (Some Paint) = paints
 step_read (Some (Enable on)) = enables on
 step_read (Some Reset) = resets
-
--- there is room in the buffers for one line more
-pub record HasRoom (lines : ℕ) (dots records : List ℕ) : Type 0 where
-  pub line : lines < 1024
-  pub places : 736 * lines + 736 ≤ length dots
-  pub bytes : record_bytes * lines + record_bytes ≤ length records
 
 -- the promise of a step, refused or not: the bench after it, and what it paints after the lines painted before
 pub record Does (step : Step) (ram external : List ℕ) (b : Bench) (dots₀ dots₁ records₀ records₁ : List ℕ) (c : Bench) : Type 0 where

@@ -25,14 +25,15 @@ pub struct Bench {
     pub lines: usize,
 }
 
-// Why a run does not do all its steps: it is refused before the first, or stopped at one, which has a place, from 0.
+// Why a run does not do all its steps: it is refused before the first, or stopped at one, which has a place, from 0. The rules have the
+// two apart.
 #[derive(Clone, Copy, PartialEq, Eq)]
 pub enum Failure {
     Refused(Refusal),
     Stopped(Refusal, usize),
 }
 
-// What a run answers.
+// What a run answers. The bench stands after a refusal too, so it is beside the outcome; the request is the rules' own.
 #[derive(Clone, Copy, PartialEq, Eq)]
 pub struct Ran {
     pub outcome: Result<(), Failure>,
@@ -48,7 +49,7 @@ fn is_requested(bench: Bench) -> bool
 }
 
 // Does the steps of a script up to the first refused one, or none where the run is refused before.
-#[tactic(auto, using(crate::proofs::RunTable::run_accepted, crate::proofs::RunTable::steps_refused))]
+#[tactic(auto, using(std::proofs::lemmas::Grind::common_steps, crate::proofs::RunTable::run_accepted, crate::proofs::RunTable::steps_refused, crate::proofs::RunTable::ran_is), unfolding(crate::specs::Runs::ran))]
 fn run_steps(
     bench: &mut Bench,
     ram: &[u8],

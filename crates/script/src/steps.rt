@@ -3,7 +3,8 @@ ghost use Rattle.std.specs.Prelude.{◌≡◌, true, ◌||◌, ◌≤◌};
 ghost use Rattle.nick.specs.Numbers.{is_set};
 ghost use Rattle.nick.specs.Refusals.{Formed, Accepted, refusal_in};
 ghost use Rattle.script.specs.Steps.{paints, steps_of, lines_in, is_paint, step_refusal, begins};
-ghost use Rattle.script.specs.Answers.{step_in, step_read, HasRoom, Does, DoesAll};
+ghost use Rattle.painting.specs.PaintedFrame.{HasRoom};
+ghost use Rattle.script.specs.Answers.{step_in, step_read, Does, DoesAll};
 
 use crate::{Bench, Failure};
 use nick::{RECORD_BYTES, Ram, Refusal, State};
@@ -30,7 +31,7 @@ pub fn begun(state: State) -> Bench
     }
 }
 
-// The step that kind, port and data make; there is none of a kind over 3.
+// The step that kind, port and data make; there is none of a kind over 3. No TryFrom, since `do_step` says which refusal that is.
 fn step_of(bytes: &[u8; 3]) -> Option<Step>
     ensures { step_read result ≡ step_in bytes.now }
 {
@@ -65,7 +66,7 @@ fn paint_line(bench: &mut Bench, ram: &Ram, dots: &mut [u8], records: &mut [u8],
 }
 
 // Does one step; a refused one changes nothing.
-#[tactic(auto, unfolding(crate::specs::Steps::after))]
+#[tactic(auto, using(std::proofs::lemmas::Grind::common_steps, crate::proofs::StepLaws::written_formed), unfolding(crate::specs::Steps::after))]
 fn do_step(
     bench: &mut Bench,
     bytes: &[u8; 3],
@@ -89,7 +90,8 @@ fn do_step(
     Ok(())
 }
 
-// A script's steps in order, up to the first that is refused.
+// A script's steps in order, up to the first that is refused. Each answer is taken apart by let .. else (docs/DECISIONS.md 20).
+#[tactic(auto, using(std::proofs::lemmas::Grind::common_steps, crate::proofs::Ahead::ahead_here, crate::proofs::Ahead::ahead_none))]
 pub fn do_steps(
     bench: &mut Bench,
     script: &[u8],

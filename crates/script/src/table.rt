@@ -7,7 +7,7 @@ ghost use Rattle.script.specs.Runs.{run_refusal};
 use nick::{Ram, Refusal, State};
 use painting::lines_refusal;
 
-// How many scanlines a script asks for, the steps after a refused one included.
+// How many scanlines a script asks for, the steps after a refused one included: kind 1 paints.
 #[tactic(auto, using(crate::proofs::Chunks::lines_counted))]
 pub fn lines_in(script: &[u8]) -> usize
     ensures { result ≡ lines_in (steps_of script.now) }

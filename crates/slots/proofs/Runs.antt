@@ -1,13 +1,12 @@
 -- Pixels in runs of dots, as a loop shows them one after another, are a cell's dots in each colour mode.
-use Rattle.std.proofs.Common.{◌≡◌, refl, ap, ℕ, zero, suc, ◌+◌, ◌-◌, ◌*◌, ◌%◌, ◌≤◌, cond, eqb, List, ◌++◌, length, get_or, take, replicate, arith, add-one, ◌∙◌}
+use Rattle.std.proofs.Common.{◌≡◌, refl, ap, ℕ, zero, suc, ◌+◌, ◌-◌, ◌*◌, ◌%◌, ◌≤◌, Bool, true, false, cond, List, ◌++◌, length, get_or, take, replicate, arith, add-one, ◌∙◌}
 use Rattle.std.proofs.lemmas.List.{length-replicate}
 use Rattle.std.proofs.lemmas.Slice.{take-put_mid}
 use borrow.Rule.Slice.PartMut.{put_mid}
-use Rattle.nick.specs.Colour.{two_index, four_index, sixteen_index}
 use Rattle.blocks.specs.declared.mode.ColourMode.TheVariants.{Two, Four, Sixteen, All}
 use Rattle.colour.specs.Cell.{cell_pixel}
 use Rattle.colour.specs.declared.Cell.{Cell}
-use Rattle.slots.specs.Shows.{runs, plain_dots}
+use Rattle.slots.specs.Shows.{runs, two_shown, four_shown, sixteen_shown, plain_dots}
 
 -- one pixel more is shown in its run
 pub runs_more : (c : ℕ → ℕ) (k run : ℕ) (out part : List ℕ)
@@ -21,32 +20,32 @@ runs_more c k run out part fits filled made =
     (rw add-one at (take-put_mid (k * run) (k * run + run - k * run) out (replicate run (c k)) ((k + 1) * run) long (omega arith))
     ∙ ap (λ (l : List ℕ). l ++ replicate run (c k)) made)
 
+-- the palette's colour of the number that is chosen
+entry_of : (palette : List ℕ) (t : Bool) (x y : ℕ) → cond t (get_or palette x 0) (get_or palette y 0) ≡ get_or palette (cond t x y) 0
+entry_of palette true x y = refl
+entry_of palette false x y = refl
+
 module _ (palette : List ℕ) (cell : Cell) where
-  -- the colour of pixel k in two, four and sixteen colours
-  abbrev pub two_shown : ℕ → ℕ
-  two_shown k = get_or palette (cond (eqb (two_index cell.byte k) 0) (cell.low % 16) (cell.high % 16)) 0
-
-  abbrev pub four_shown : ℕ → ℕ
-  four_shown k = get_or palette (four_index cell.byte k) 0
-
-  abbrev pub sixteen_shown : ℕ → ℕ
-  sixteen_shown k = get_or palette (sixteen_index cell.byte k) 0
-
-  pub two_dots : (run : ℕ) → run ≤ 2 → cell.colours ≡ Two → runs two_shown 8 run ≡ plain_dots palette cell run
+  pub two_dots : (run clear set : ℕ)
+      → run ≤ 2
+      → cell.colours ≡ Two
+      → clear ≡ get_or palette (cell.low % 16) 0
+      → set ≡ get_or palette (cell.high % 16) 0
+      → plain_dots palette cell run ≡ runs (two_shown cell.byte clear set) 8 run
   unfolding plain_dots cell_pixel
-  two_dots zero l h = refl
-  two_dots (suc zero) l h = rw h refl
-  two_dots (suc (suc zero)) l h = rw h refl
-  two_dots (suc (suc (suc n))) l h = absurd (omega arith)
+  two_dots zero clear set l h e f = refl
+  two_dots (suc zero) clear set l h e f = simp (h, e, f, entry_of) refl
+  two_dots (suc (suc zero)) clear set l h e f = simp (h, e, f, entry_of) refl
+  two_dots (suc (suc (suc n))) clear set l h e f = absurd (omega arith)
 
-  pub four_dots : (run : ℕ) → run ≤ 2 → cell.colours ≡ Four → runs four_shown 4 (2 * run) ≡ plain_dots palette cell run
+  pub four_dots : (run : ℕ) → run ≤ 2 → cell.colours ≡ Four → plain_dots palette cell run ≡ runs (four_shown palette cell.byte) 4 (2 * run)
   unfolding plain_dots cell_pixel
   four_dots zero l h = refl
   four_dots (suc zero) l h = rw h refl
   four_dots (suc (suc zero)) l h = rw h refl
   four_dots (suc (suc (suc n))) l h = absurd (omega arith)
 
-  pub sixteen_dots : (run : ℕ) → run ≤ 2 → cell.colours ≡ Sixteen → runs sixteen_shown 2 (4 * run) ≡ plain_dots palette cell run
+  pub sixteen_dots : (run : ℕ) → run ≤ 2 → cell.colours ≡ Sixteen → plain_dots palette cell run ≡ runs (sixteen_shown palette cell.byte) 2 (4 * run)
   unfolding plain_dots cell_pixel
   sixteen_dots zero l h = refl
   sixteen_dots (suc zero) l h = rw h refl

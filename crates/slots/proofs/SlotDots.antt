@@ -1,5 +1,5 @@
 -- A slot painted with the dots of what it fetched is painted by the rules.
-use Rattle.std.proofs.Common.{◌≡◌, ℕ, ◌+◌, ◌*◌, ◌<◌, List, ◌∙◌}
+use Rattle.std.proofs.Common.{◌≡◌, ℕ, ◌+◌, ◌*◌, ◌<◌, List, sym}
 use Rattle.lists.proofs.Laws.{tab_same}
 use Rattle.nick.specs.Numbers.{byte_at}
 use Rattle.nick.specs.Slots.{mode_of}
@@ -10,26 +10,19 @@ use Rattle.nick.specs.declared.Pointers.{Pointers}
 use Rattle.nick.specs.declared.Block.{Block}
 use Rattle.fetch.specs.Fetches.{fetched_at, slot_dot}
 use Rattle.fetch.specs.declared.Fetched.{Fetched}
-use Rattle.fetch.proofs.SlotDots.{mode_dot, moved, counted, few}
+use Rattle.fetch.proofs.SlotDots.{mode_dot}
 use Rattle.slots.specs.Shows.{cells_dots}
-use Rattle.slots.specs.PaintedSlot.{AnySlot}
 
-pub any_slot : (g : Registers) (ram : List ℕ) (b : Block) (n : ℕ) (p : Pointers) (external out : List ℕ) (f : Fetched)
-    → byte_at ram p.ld1 < 256
-    → f ≡ fetched_at (active_at b n) (mode_of b) ram b p
-    → out ≡ cells_dots g b (mode_of b) f.cells external (16 * n)
-    → AnySlot g ram b n p external out (record { at = f.at; fetched = f.count })
-unfolding cells_dots slot_dots
-any_slot g ram b n p external out f l e o =
-    let active = active_at b n in
-    let m = mode_of b in record {
-      dots =
-          o
-          ∙ rw e
-          (tab_same (λ j. slot_dot g b m (fetched_at active m ram b p).cells j (byte_at external (16 * n + j)))
-          (λ j. dot_colour g b (dot_at active ram b p j) (byte_at external (16 * n + j))) 16
-          (λ j h. mode_dot g ram b p active m j (byte_at external (16 * n + j)) h l));
-      at = rw e (moved g ram b p active m);
-      fetched = rw e (counted g ram b p active m);
-      few = rw e (few g ram b p active m);
-    }
+module _ (ram : List ℕ) (b : Block) (n : ℕ) (p : Pointers) where
+  -- what the slot fetches
+  abbrev fetched : Fetched
+  fetched = fetched_at (active_at b n) (mode_of b) ram b p
+
+  pub slot_shown : (g : Registers) (external : List ℕ)
+      → byte_at ram p.ld1 < 256
+      → slot_dots g ram b n p (byte_at external) ≡ cells_dots g b (mode_of b) fetched.cells external (16 * n)
+  unfolding cells_dots slot_dots
+  slot_shown g external l =
+      tab_same (λ j. dot_colour g b (dot_at (active_at b n) ram b p j) (byte_at external (16 * n + j)))
+      (λ j. slot_dot g b (mode_of b) fetched.cells j (byte_at external (16 * n + j))) 16
+      (λ j h. sym (mode_dot g ram b p (active_at b n) (mode_of b) j (byte_at external (16 * n + j)) h l))

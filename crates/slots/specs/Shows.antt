@@ -1,8 +1,9 @@
 -- The dots that a slot's cells show: pixels in runs of dots, with no external colour and with it.
-use Rattle.std.specs.Prelude.{ℕ, zero, suc, ◌+◌, ◌*◌, ◌/◌, cond, List, [], ◌++◌, get_or, replicate}
+use Rattle.std.specs.Prelude.{ℕ, zero, suc, ◌+◌, ◌*◌, ◌/◌, cond, eqb, List, [], ◌++◌, get_or, replicate}
 use Rattle.lists.specs.Tab.{tab}
 use Rattle.nick.specs.Numbers.{byte_at}
 use Rattle.nick.specs.Slots.{Mode}
+use Rattle.nick.specs.Colour.{two_index, four_index, sixteen_index}
 use Rattle.nick.specs.External.{external_index, external_wins}
 use Rattle.nick.specs.declared.Registers.{Registers}
 use Rattle.nick.specs.declared.Block.{Block}
@@ -17,6 +18,16 @@ use Rattle.fetch.specs.declared.Cells.{Cells}
 abbrev pub runs : (ℕ → ℕ) → ℕ → ℕ → List ℕ
 runs g zero run = []
 runs g (suc n) run = runs g n run ++ replicate run (g n)
+
+-- the colour of pixel k of a byte: in two colours, that of a clear or of a set bit; in four and in sixteen by the palette
+abbrev pub two_shown : ℕ → ℕ → ℕ → ℕ → ℕ
+two_shown byte clear set k = cond (eqb (two_index byte k) 0) clear set
+
+abbrev pub four_shown : List ℕ → ℕ → ℕ → ℕ
+four_shown palette byte k = get_or palette (four_index byte k) 0
+
+abbrev pub sixteen_shown : List ℕ → ℕ → ℕ → ℕ
+sixteen_shown palette byte k = get_or palette (sixteen_index byte k) 0
 
 -- the colour of a pixel by the palette, and with external byte e
 abbrev pub pixel_shown : List ℕ → Pixel → ℕ

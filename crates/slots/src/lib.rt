@@ -1,46 +1,37 @@
 // One slot of a scanline: the sixteen dots that it shows of what it fetches.
 #![tactic(auto)]
 
-ghost use Rattle.std.specs.Prelude.{◌≡◌, ◌<◌, length};
-ghost use Rattle.colour.specs.Cell.{palette_of};
+ghost use Rattle.std.specs.Prelude.{◌≡◌, length};
 ghost use Rattle.slots.specs.PaintedSlot.{AnySlot};
 
 mod show;
 
-use nick::{Block, Pointers, Ram, Registers};
+use colour::LineColours;
+use nick::{Pointers, Ram};
 
-// The pointers after a slot, and the bytes fetched.
+// The pointers after a slot, and the bytes fetched: what is left of a fetch once its cells are shown.
 #[derive(Clone, Copy, PartialEq, Eq)]
 pub struct Slot {
     pub at: Pointers,
     pub fetched: u8,
 }
 
-// Paints dot slot `n` with the block's palette; `external` has the scanline's bytes. `out` is a slice, since a part of a scanline
-// becomes an array only through an Option.
+// Paints a dot slot; `external` has the scanline's bytes. `out` is a slice: of a part of a buffer that
+// `as_mut_array` makes an array the check does not find what is left in the buffer.
+#[tactic(auto, using(crate::proofs::SlotDots::slot_shown, fetch::proofs::SlotDots::moved, fetch::proofs::SlotDots::counted, fetch::proofs::SlotDots::few))]
 pub fn paint_slot(
-    registers: Registers,
-    palette: &[u8; 16],
+    colours: &LineColours,
     ram: &Ram,
-    block: Block,
-    n: usize,
+    slot: u8,
     at: Pointers,
     out: &mut [u8],
     external: &[u8],
 ) -> Slot
-    requires { (palette.now ≡ palette_of registers block) × (n < 46) × (length out.old ≡ 16) }
-    ensures { AnySlot registers ram.now block n at external.now out.new result }
+    requires { length out.old ≡ 16 }
+    ensures { AnySlot colours.now.registers ram.now colours.now.block slot at external.now out.new result }
 {
-    let fetched = fetch::fetch_slot(ram, block, n, at);
-    show::show(
-        registers,
-        palette,
-        block,
-        fetched.cells,
-        out,
-        external,
-        16 * n,
-    );
+    let fetched = fetch::fetch_slot(ram, colours.block, slot, at);
+    show::show(colours, fetched.cells, out, external, slot);
     Slot {
         at: fetched.at,
         fetched: fetched.count,

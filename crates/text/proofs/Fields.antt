@@ -1,11 +1,10 @@
 -- Laws on numbers that each stand after a tab.
-use mathlib.Core.Path.{◌≡◌, refl, sym, ap, ◌∙◌}
+use mathlib.Core.Path.{◌≡◌, refl, sym}
 use mathlib.Core.List.{List, [], ◌∷◌, ◌++◌, append-nil, append_assoc}
-use Prim.Native.Nat.{ℕ, suc, ◌+◌, ◌<◌, ◌≤◌}
+use Prim.Native.Nat.{ℕ, ◌+◌, ◌<◌}
 use native.Mathlib.Numerals.{add-one}
-use native.Mathlib.Omega.{arith}
-use lib.ListN.{length, get_or, take, drop, length-append}
-use lib.Seq.{take-suc, split_at}
+use lib.ListN.{length, get_or, take}
+use lib.Seq.{take-suc}
 use Rattle.text.specs.Decimal.{TAB, decimal, tabbed}
 
 -- a number after a tab
@@ -30,12 +29,3 @@ tabbed_append (n ∷ xs) ys = rw (tabbed_append xs ys) (sym (append_assoc (TAB �
 module _ (ns : List ℕ) (i : ℕ) (h : i < length ns) where
   pub fields_more : tabbed (take (i + 1) ns) ≡ tabbed (take i ns) ++ field (get_or ns i 0)
   fields_more = rw (add-one i, take-suc ns i 0 h, tabbed_append (take i ns) (get_or ns i 0 ∷ []), one_field (get_or ns i 0))
-
-  pub fields_room : length (tabbed (take i ns)) + length (field (get_or ns i 0)) ≤ length (tabbed ns)
-  unfolding tabbed
-  fields_room =
-      let front = take i ns in
-      let rest = drop (suc i) ns in
-      let n = get_or ns i 0 in
-      let parts : tabbed ns ≡ tabbed front ++ (field n ++ tabbed rest) = ap tabbed (split_at ns i 0 h) ∙ tabbed_append front (n ∷ rest) in
-      rw (parts, length-append (tabbed front) (field n ++ tabbed rest), length-append (field n) (tabbed rest)) (omega arith)

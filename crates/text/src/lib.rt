@@ -3,7 +3,7 @@
 
 ghost use Rattle.std.specs.Prelude.{[], ◌∷◌, ◌≡◌};
 ghost use Rattle.text.specs.Decimal.{TAB as Decimal·TAB, decimal, tabbed};
-ghost use Rattle.text.specs.Writing.{Room, wrote};
+ghost use Rattle.text.specs.Writing.{wrote};
 
 mod number;
 
@@ -12,7 +12,7 @@ pub use number::number_of;
 pub const TAB: u8 = b'\t';
 
 // Writes text from the buffer's start on. Bytes past the buffer's end are counted and not stored, so that a writer over an empty
-// buffer measures a text.
+// buffer measures a text. The count stops at the largest usize, so that no text is refused.
 #[derive(Drop)]
 pub struct Writer<'a> {
     out: &'a mut [u8],
@@ -37,19 +37,18 @@ impl<'a> Writer<'a> {
     // One byte.
     #[tactic(auto, unfolding(crate::specs::Writing::wrote))]
     pub fn put_byte(&mut self, byte: u8)
-        requires { Room self.old (byte ∷ []) }
         ensures { self.new ≡ wrote self.old (byte ∷ []) }
     {
-        if self.end < self.out.len() {
-            self.out[self.end] = byte;
+        let Writer { out, end } = self;
+        if *end < out.len() {
+            out[*end] = byte;
         }
-        self.end += 1;
+        *end = end.saturating_add(1);
     }
 
     // A run of bytes.
     #[tactic(auto, using(crate::proofs::Writing::writing, crate::proofs::Writing::wrote_more))]
     pub fn put_bytes(&mut self, bytes: &[u8])
-        requires { Room self.old bytes.now }
         ensures { self.new ≡ wrote self.old bytes.now }
     {
         for byte in bytes {
@@ -57,10 +56,9 @@ impl<'a> Writer<'a> {
         }
     }
 
-    // A number's decimal digits: those of the number divided by ten, then the last one.
+    // A number's decimal digits: those of the number divided by ten, then the last one (a form that docs/DECISIONS.md 20 names).
     #[tactic(auto, using(crate::proofs::Decimal::decimal_one, crate::proofs::Decimal::decimal_more, crate::proofs::Writing::writing))]
     pub fn put_decimal(&mut self, n: usize)
-        requires { Room self.old (decimal n) }
         ensures { self.new ≡ wrote self.old (decimal n) }
     {
         if n < 10 {
@@ -74,17 +72,16 @@ impl<'a> Writer<'a> {
     // A tab and a number.
     #[tactic(auto, using(crate::proofs::Writing::writing))]
     pub fn put_field(&mut self, n: usize)
-        requires { Room self.old (Decimal·TAB ∷ decimal n) }
         ensures { self.new ≡ wrote self.old (Decimal·TAB ∷ decimal n) }
     {
         self.put_byte(TAB);
         self.put_decimal(n);
     }
 
-    // Numbers, each after a tab.
-    #[tactic(auto, using(crate::proofs::Writing::writing, crate::proofs::Fields::no_field, crate::proofs::Fields::fields_more, crate::proofs::Fields::fields_room))]
+    // Numbers, each after a tab. The loop is not shared with put_bytes: over a closure it would need each item's text as a ghost
+    // value, which no caller can pick there.
+    #[tactic(auto, using(crate::proofs::Writing::writing, crate::proofs::Fields::no_field, crate::proofs::Fields::fields_more))]
     pub fn put_fields(&mut self, numbers: &[usize])
-        requires { Room self.old (tabbed numbers.now) }
         ensures { self.new ≡ wrote self.old (tabbed numbers.now) }
     {
         for n in numbers {

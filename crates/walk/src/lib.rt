@@ -6,7 +6,7 @@ ghost use Rattle.std.specs.Prelude.{◌≡◌, ◌<◌, ◌≤◌, min, if◌the
 ghost use Rattle.nick.specs.Blocks.{vres};
 ghost use Rattle.nick.specs.Scanline.{pointers_after};
 ghost use Rattle.blocks.specs.Modes.{mode_named};
-ghost use Rattle.walk.specs.Steps.{StepsOf, advanced, skipped};
+ghost use Rattle.walk.specs.Steps.{StepsOf, skipped};
 ghost use Rattle.nick.specs.Refusals.{Formed};
 ghost use Rattle.walk.specs.Walks.{Reached, Turns};
 
@@ -28,7 +28,7 @@ struct Turned {
     scan: Scan,
 }
 
-// The steps of a video mode.
+// The steps of a video mode. fetch and scanline move the pointers as they read; here nothing is read.
 fn steps_of(mode: VideoMode) -> Steps
     ensures { StepsOf (mode_named mode) result }
 {
@@ -42,26 +42,14 @@ fn steps_of(mode: VideoMode) -> Steps
     Steps { ld1, ld2, line }
 }
 
-// LD1 gone up by `ld1` and LD2 by `ld2`.
-#[tactic(auto, unfolding(crate::specs::Steps::advanced))]
-fn advance(at: Pointers, ld1: u16, ld2: u16) -> Pointers
-    ensures { result ≡ advanced ld1 ld2 at }
-{
-    Pointers {
-        ld1: at.ld1.wrapping_add(ld1),
-        ld2: at.ld2.wrapping_add(ld2),
-    }
-}
-
 // The pointers at dot slot `slot`, where `at` are those at the first.
-#[tactic(auto, using(crate::proofs::Rises::pointers_after_lem))]
-pub fn pointers_at(block: Block, at: Pointers, slot: u16) -> Pointers
-    requires { slot ≤ 46 }
+#[tactic(auto, using(crate::proofs::Rises::pointers_after_lem), unfolding(crate::specs::Steps::advanced))]
+pub fn pointers_at(block: Block, at: Pointers, slot: u8) -> Pointers
     ensures { result ≡ pointers_after block slot at }
 {
     let steps = steps_of(video_mode(block));
     let active = active_before(block, slot);
-    advance(at, steps.ld1 * active, steps.ld2 * active)
+    at.up(steps.ld1 * active, steps.ld2 * active)
 }
 
 // Over how many of `lines` scanlines of a mode line LD1 goes on: over all with VRES, else over the last alone.
@@ -73,7 +61,7 @@ fn lines_of_ld1(block: Block, lines: u16) -> u16
 }
 
 // The scan after `lines` scanlines of a mode line, from the scan as the first of them begins.
-#[tactic(auto, unfolding(crate::specs::Steps::skipped))]
+#[tactic(auto, unfolding(crate::specs::Steps::skipped, crate::specs::Steps::advanced))]
 fn skip(scan: Scan, lines: u16) -> Scan
     requires { (lines ≤ 256) × (lines ≤ scan.left) }
     ensures { result ≡ skipped scan lines }
@@ -84,7 +72,7 @@ fn skip(scan: Scan, lines: u16) -> Scan
     let ld1 = lines_of_ld1(block, lines) * (steps.ld1 * active);
     let ld2 = lines * (steps.ld2 * active + steps.line);
     Scan {
-        at: advance(scan.at, ld1, ld2),
+        at: scan.at.up(ld1, ld2),
         left: scan.left - lines,
         ..scan
     }
@@ -100,7 +88,7 @@ fn lines_inside(scan: Scan, lines: usize) -> u16
     usize::from(scan.left).min(lines) as u16
 }
 
-// One turn: the scanlines up to the next load, at most `lines` of them.
+// One turn: the scanlines up to the next load, at most `lines` of them. Well-formed by a clause: docs/DECISIONS.md 66.
 #[tactic(auto, using(crate::proofs::Walking::begun_left, crate::proofs::Walking::lines_together, crate::proofs::Walking::scan_together, crate::proofs::Walking::formed_together))]
 fn turn(registers: Registers, ram: &Ram, scan: Scan, lines: usize) -> Turned
     requires { Formed scan × (1 ≤ lines) }

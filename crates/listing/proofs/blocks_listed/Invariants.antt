@@ -4,4 +4,4 @@ use Rattle.listing.proofs.BlocksLeft.{blocks_after}
 use Rattle.listing.proofs.blocks_listed.Given as goal
 
 abbrev pub invariant-loop-k : goal.invariant-loop-k
-invariant-loop-k l = blocks_after 4096 l.ram l.base 0 ≡ l.k + blocks_after 4096 l.ram l.base l.k
+invariant-loop-k l = blocks_after 4096 l.ram l.base.value 0 ≡ l.k + blocks_after 4096 l.ram l.base.value l.k

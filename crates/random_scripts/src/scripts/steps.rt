@@ -23,7 +23,7 @@ struct Plan {
     lines: Option<Lines>,
 }
 
-// The kind of a step by its bytes k and p. An unknown one is drawn only where G says so.
+// The kind of a step by its bytes k and p, as a byte and no Step, since unknown kinds are drawn too, only where G says so.
 fn drawn_kind(g: u8, k: u8, p: u8) -> u8 {
     match k % 32 {
         0..=19 => 1,
@@ -34,7 +34,7 @@ fn drawn_kind(g: u8, k: u8, p: u8) -> u8 {
     }
 }
 
-// The kind of a step in a script of these kinds.
+// The kind of a step in a script of these kinds. By an enum and no closure, since a plan holds it.
 fn kind_of(kinds: Kinds, drawn: u8) -> u8 {
     match kinds {
         Kinds::Mixed => drawn,
@@ -67,10 +67,9 @@ fn port_of(g: u8, kind: u8, p: u8) -> u8 {
 
 // Makes a step of the three bytes drawn.
 fn make_step(kinds: Kinds, g: u8, step: &mut [u8; 3]) {
-    let [k, p, _] = *step;
+    let [k, p, d] = *step;
     let kind = kind_of(kinds, drawn_kind(g, k, p));
-    step[0] = kind;
-    step[1] = port_of(g, kind, p);
+    *step = [kind, port_of(g, kind, p), d];
 }
 
 // How many bytes follow the last step: part of another, where G says so.
@@ -110,7 +109,8 @@ fn plan_of(head: Head) -> Plan
     }
 }
 
-// Draws n steps, and answers how many scanlines they paint.
+// Draws n steps, and answers how many scanlines they paint: by a filter, whose count is known to be at most n, which `script::lines_in`
+// does not say.
 fn draw_steps(
     source: &mut Source,
     kinds: Kinds,
@@ -130,7 +130,8 @@ fn draw_steps(
     steps.iter().filter(|step| step[0] == 1).count()
 }
 
-// Draws the script of a case, and answers it with the height that the buffers are made for.
+// Draws the script of a case, and answers it with the height that the buffers are made for. The bytes after its last step stand in the
+// buffer, and `tail_length` says how many of them are the script's.
 pub fn draw_script<'a>(
     source: &mut Source,
     head: Head,
@@ -141,6 +142,7 @@ pub fn draw_script<'a>(
     let end = 3 * plan.steps;
     out[end] = 1;
     out[end + 1] = 129;
+    // A match: that there are at most 1,025 lines is known only where the plan has none.
     let lines = match plan.lines {
         Some(lines) => lines,
         None => Lines { count: painted },

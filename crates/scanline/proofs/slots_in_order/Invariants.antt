@@ -6,8 +6,8 @@ use Rattle.scanline.proofs.slots_in_order.Given as goal
 
 abbrev pub invariant-loop-n : goal.invariant-loop-n
 invariant-loop-n l = record {
-  dots : take (16 * l.n) l.out ≡ slots_dots l.registers l.ram l.begun.block l.n l.begun.at (byte_at l.external);
-  at : l.slot.at ≡ pointers_after l.begun.block l.n l.begun.at;
-  fetched : l.slot.fetched ≡ length (slots_fetched l.ram l.begun.block l.n l.begun.at);
+  dots : take (16 * l.n) l.out ≡ slots_dots l.fn.registers l.ram l.fn.begun.block l.n l.fn.begun.at (byte_at l.external);
+  at : l.slot.at ≡ pointers_after l.fn.begun.block l.n l.fn.begun.at;
+  fetched : l.slot.fetched ≡ length (slots_fetched l.ram l.fn.begun.block l.n l.fn.begun.at);
   few : l.slot.fetched ≤ 2 * l.n;
 }
