@@ -13,6 +13,7 @@ mod source;
 
 pub use buffers::{Buffers, Lent};
 pub use digest::Digest;
+pub use faults::{faulty_state, has_fault, ram_length};
 pub use head::{Case, Head};
 pub use lengths::{Heights, Lines, MOST_RECORDS};
 pub use ram::{LongRam, draw_plain_ram, no_reload};

@@ -61,11 +61,9 @@ fn block_in(colours: u8, bits: u8) -> Block
     }
 }
 
-// Takes in the palette number of the dot at an eighth of the byte; 255 and the colour where it has none.
-fn digest_dot(digest: &mut Digest, cell: Cell, at: u8)
-    requires { at < 8 }
-{
-    match colour::pixel_at(cell, at) {
+// Takes in the palette number of a dot; 255 and the colour where it has none.
+fn digest_dot(digest: &mut Digest, pixel: Pixel) {
+    match pixel {
         Pixel::Palette(n) => digest.byte(n),
         Pixel::Direct(colour) => digest.bytes(&[255, colour]),
     }
@@ -75,8 +73,9 @@ fn digest_dot(digest: &mut Digest, cell: Cell, at: u8)
 fn digest_eighth(digest: &mut Digest, dots: u8, cell: Cell, at: u8)
     requires { at < 8 }
 {
+    let pixel = colour::pixel_at(cell, at);
     for _ in 0..dots {
-        digest_dot(digest, cell, at);
+        digest_dot(digest, pixel);
     }
 }
 

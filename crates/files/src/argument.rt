@@ -1,5 +1,5 @@
 // The files and numbers that the program's arguments name.
-ghost use Rattle.std.specs.Prelude.{◌≡◌, ◌≤◌, length, IfErr, IfOk, IfSome};
+ghost use Rattle.std.specs.Prelude.{◌≡◌, ◌≤◌, length, take, IfErr, IfOk, IfSome};
 
 use crate::error::Error;
 use std::env::{Env, FillError};
@@ -49,6 +49,14 @@ fn read_full(file: &mut impl Read, buf: &mut [u8]) -> usize
     done
 }
 
+// What was read into a buffer, so many bytes from its start.
+fn front(buf: &[u8], read: usize) -> &[u8]
+    requires { read ≤ length buf.now }
+    ensures { result.now ≡ take read buf.now }
+{
+    &buf[..read]
+}
+
 // Opens the file that argument i names, where that can be done. A name that is not UTF-8 opens none.
 fn open_by<R: Files + Env, F: FnOnce(&str) -> io::Result<R::File>>(
     rt: &R,
@@ -69,7 +77,7 @@ pub fn read_argument<'a>(rt: &(impl Files + Env), i: usize, buf: &'a mut [u8]) -
     if length < buf.len() && !is_at_end(&mut file) {
         return None;
     }
-    Some(&buf[..length])
+    Some(front(buf, length))
 }
 
 // How many arguments there are, the program's name among them.

@@ -1,6 +1,6 @@
 // Two files that are read together.
-ghost use Rattle.std.specs.Prelude.{◌≡◌, ◌≤◌, length, IfOk};
-ghost use Rattle.files.specs.Reading.{both_read};
+ghost use Rattle.std.specs.Prelude.{◌≡◌, ◌≤◌, length, true, IfErr, IfOk};
+ghost use Rattle.files.specs.Reading.{both_read, is_unread};
 
 use crate::argument::read_argument;
 use crate::error::Error;
@@ -29,7 +29,8 @@ pub fn read_pair<'a>(
     first: &'a mut [u8],
     second: &'a mut [u8],
 ) -> Result<(&'a [u8], &'a [u8]), Error>
-    ensures { IfOk result (λ read. (length read.0.now ≤ length first.old) × (length read.1.now ≤ length second.old)) }
+    ensures lengths { IfOk result (λ read. (length read.0.now ≤ length first.old) × (length read.1.now ≤ length second.old)) }
+    ensures unread { IfErr result (λ error. is_unread i j error ≡ true) }
 {
     let first = read_argument(rt, i, first);
     let second = read_argument(rt, j, second);

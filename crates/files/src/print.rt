@@ -5,9 +5,14 @@ use nick::{Levels, Refusal};
 use std::env::Env;
 use std::fmt::Display;
 
-// Prints a refusal: its number, what it names, and its words.
-pub fn print_refusal_of(rt: &impl Print, named: &impl Display, refusal: Refusal) {
-    let _ = println!(rt; "refused {}: {named}{refusal}", u8::from(refusal));
+// Prints a refusal, or the number of one, which may be any: the number, what it names, and its words, also where no call gives the
+// number.
+pub fn print_refusal_of(rt: &impl Print, named: &impl Display, refusal: impl Into<u8>) {
+    let number: u8 = refusal.into();
+    let _ = match Refusal::try_from(number) {
+        Ok(refusal) => println!(rt; "refused {number}: {named}{refusal}"),
+        Err(unknown) => println!(rt; "refused {number}: {named}{unknown}"),
+    };
 }
 
 // Prints how many lines were painted.

@@ -4,6 +4,7 @@
 
 mod print;
 
+ghost use Rattle.std.specs.Prelude.{◌≡◌, ◌≤◌, length, IfOk};
 ghost use Rattle.nickcompare.specs.ComparedFiles.{Compares};
 
 use comparison::{Differences, Refused, Side};
@@ -38,16 +39,25 @@ struct Room {
 const USAGE: &str =
     "usage: nickcompare HEIGHT CAPTURE CAPTURE-RECORDS FRAME FRAME-RECORDS; CAPTURE and FRAME are 736 bytes a line, their records 7";
 
+// The side of which these dots and records were read.
+fn side_of<'a>(read: (&'a [u8], &'a [u8])) -> Side<'a>
+    ensures { (result.dots.now ≡ read.entry.0.now) × (result.records.now ≡ read.entry.1.now) }
+{
+    let (dots, records) = read;
+    Side { dots, records }
+}
+
 // Reads a side, from the files that arguments i and j name.
 fn read_side<'a>(
     rt: &(impl Files + Env),
     i: usize,
     j: usize,
     room: &'a mut Room,
-) -> Result<Side<'a>, Error> {
+) -> Result<Side<'a>, Error>
+    ensures { IfOk result (λ side. (length side.dots.now ≤ length room.old.dots) × (length side.records.now ≤ length room.old.records)) }
+{
     let Room { dots, records } = room;
-    let (dots, records) = files::read_pair(rt, i, j, dots, records)?;
-    Ok(Side { dots, records })
+    files::read_pair(rt, i, j, dots, records).map(side_of)
 }
 
 // Compares what was read. The first dot that differs is in both sides.
@@ -66,12 +76,9 @@ fn print_comparison(rt: &impl Print, height: usize, capture: Side<'_>, frame: Si
     }
 }
 
-// Does what the arguments ask.
-fn run(rt: &(impl Files + Env + Print)) -> Result<(), Error> {
-    if files::argument_count(rt) != FRAME_RECORDS + 1 {
-        return Err(Error::Usage);
-    }
-    let height = files::number_argument(rt, HEIGHT).ok_or(Error::Usage)?;
+// Reads the files in the order of the arguments, and compares. The rooms are in a function that begins with them: else they are made
+// zero twice.
+fn compare_files(rt: &(impl Files + Env + Print), height: usize) -> Result<(), Error> {
     let mut capture = Room {
         dots: [0; DOTS_ROOM],
         records: [0; RECORDS_ROOM],
@@ -84,6 +91,15 @@ fn run(rt: &(impl Files + Env + Print)) -> Result<(), Error> {
     let frame = read_side(rt, FRAME, FRAME_RECORDS, &mut frame)?;
     print_comparison(rt, height, capture, frame);
     Ok(())
+}
+
+// Does what the arguments ask.
+fn run(rt: &(impl Files + Env + Print)) -> Result<(), Error> {
+    if files::argument_count(rt) != FRAME_RECORDS + 1 {
+        return Err(Error::Usage);
+    }
+    let height = files::number_argument(rt, HEIGHT).ok_or(Error::Usage)?;
+    compare_files(rt, height)
 }
 
 fn main(rt: HostRuntime) {

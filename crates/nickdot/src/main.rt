@@ -75,6 +75,20 @@ fn external_asked(rt: &impl Env) -> Option<u8> {
     u8::try_from(files::number_argument(rt, EXTERNAL)?).ok()
 }
 
+// Reads the files and answers. The buffers are in a function that begins with them: else they are made zero twice.
+fn answer_files(
+    rt: &(impl Files + Env + Print),
+    line: usize,
+    dot: usize,
+    external: u8,
+) -> Result<(), Error> {
+    let mut ram = [0u8; RAM_ROOM];
+    let mut writes = [0u8; WRITES_ROOM];
+    let inputs = files::read_inputs(rt, &mut ram, &mut writes)?;
+    let answer = answer(inputs, line, dot, external)?;
+    print_answer(rt, inputs.ram, answer)
+}
+
 // Does what the arguments ask.
 fn run(rt: &(impl Files + Env + Print)) -> Result<(), Error> {
     let count = files::argument_count(rt);
@@ -84,11 +98,7 @@ fn run(rt: &(impl Files + Env + Print)) -> Result<(), Error> {
     let external = external_asked(rt).ok_or(Error::Usage)?;
     let line = files::number_argument(rt, LINE).ok_or(Error::Usage)?;
     let dot = files::number_argument(rt, DOT).ok_or(Error::Usage)?;
-    let mut ram = [0u8; RAM_ROOM];
-    let mut writes = [0u8; WRITES_ROOM];
-    let inputs = files::read_inputs(rt, &mut ram, &mut writes)?;
-    let answer = answer(inputs, line, dot, external)?;
-    print_answer(rt, inputs.ram, answer)
+    answer_files(rt, line, dot, external)
 }
 
 fn main(rt: HostRuntime) {

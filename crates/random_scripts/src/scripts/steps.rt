@@ -1,5 +1,5 @@
 // The script of a case: its steps, the bytes after them, and the height that the buffers are made for.
-ghost use Rattle.std.specs.Prelude.{◌≤◌, MatchOption};
+ghost use Rattle.std.specs.Prelude.{◌≤◌, length, MatchOption};
 
 use cases::{Head, Lines, Source};
 
@@ -136,7 +136,9 @@ pub fn draw_script<'a>(
     source: &mut Source,
     head: Head,
     out: &'a mut [u8; MOST_BYTES],
-) -> (&'a [u8], Lines) {
+) -> (&'a [u8], Lines)
+    ensures { length result.0.now ≤ 3842 }
+{
     let plan = plan_of(head);
     let painted = draw_steps(source, plan.kinds, head.g, plan.steps, out);
     let end = 3 * plan.steps;
