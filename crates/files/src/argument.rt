@@ -49,7 +49,7 @@ fn read_full(file: &mut impl Read, buf: &mut [u8]) -> usize
     done
 }
 
-// What was read into a buffer, so many bytes from its start.
+// The start of a buffer, as many bytes as were read into it.
 fn front(buf: &[u8], read: usize) -> &[u8]
     requires { read ≤ length buf.now }
     ensures { result.now ≡ take read buf.now }

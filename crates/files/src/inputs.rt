@@ -12,7 +12,7 @@ pub const RAM: usize = 1;
 
 pub const COMMANDS: usize = 2;
 
-// The same argument, of the programs that it gives register writes to.
+// The same argument, where it is register writes.
 pub const WRITES: usize = COMMANDS;
 
 // The room for RAM and for WRITES: one byte more than is allowed, so that a longer file shows.

@@ -5,8 +5,8 @@ use nick::{Levels, Refusal};
 use std::env::Env;
 use std::fmt::Display;
 
-// Prints a refusal, or the number of one, which may be any: the number, what it names, and its words, also where no call gives the
-// number.
+// Prints a refusal, given as one or by a number: its number, what it names, and its words. Any number is printed, also one that no call
+// gives.
 pub fn print_refusal_of(rt: &impl Print, named: &impl Display, refusal: impl Into<u8>) {
     let number: u8 = refusal.into();
     let _ = match Refusal::try_from(number) {

@@ -4,7 +4,7 @@
 
 ghost use Rattle.nicklist.specs.ListingAfterWrites.{ListsAfter};
 
-use files::{COMMANDS, Error, Inputs, RAM_ROOM, WRITES_ROOM};
+use files::{Error, Inputs, RAM_ROOM, WRITES, WRITES_ROOM};
 use nick::Refusal;
 use std::env::Env;
 use std::rt::Files;
@@ -34,7 +34,7 @@ fn print_listing(rt: &impl Print, inputs: Inputs<'_>, text: &mut [u8]) -> Result
 
 // Reads the files and lists.
 fn run(rt: &(impl Files + Env + Print)) -> Result<(), Error> {
-    if files::argument_count(rt) != COMMANDS + 1 {
+    if files::argument_count(rt) != WRITES + 1 {
         return Err(Error::Usage);
     }
     let mut ram = [0u8; RAM_ROOM];
